@@ -1,0 +1,1 @@
+// Counts by seconds, days and weeks.

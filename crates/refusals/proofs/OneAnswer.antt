@@ -1,0 +1,14 @@
+-- What it is for the contract of a call to leave one answer for each input.
+-- A contract is read here as the checker reads it: a statement of the call's lifetimes, its arguments, its answer and what the arguments are at its end.
+use mathlib.Core.Path.{_≡_, sym, _∙_}
+
+module _ {Lifetimes : Type 0} {Arguments Answer End : Lifetimes → Type 0} where
+  -- two answers to the same arguments that both meet the contract are equal
+  abbrev pub OneAnswer : ((κ : Lifetimes) → Arguments κ → Answer κ → End κ → Type 0) → Type 0
+  OneAnswer Contract =
+      (κ : Lifetimes) (a : Arguments κ) (x y : Answer κ) (e f : End κ)
+      → Contract κ a x e → Contract κ a y f → x ≡ y
+
+-- a contract that gives a view of the answer by a definition leaves one answer, where the view tells answers apart
+pub viewed : {A B : Type 0} {view : A → B} {d : B} → ((x y : A) → view x ≡ view y → x ≡ y) → (x y : A) → view x ≡ d → view y ≡ d → x ≡ y
+viewed tells x y p q = tells x y (p ∙ sym q)

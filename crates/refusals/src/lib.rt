@@ -1,0 +1,47 @@
+// The refusals of the clock core, each with its number.
+ghost use mathlib.Core.Path.{_≡_};
+ghost use Rattle.refusals.specs.Number.{numberOf};
+
+// Why a call gives no answer.
+pub enum Refusal {
+    // the exact result, or a count on the way to it, does not fit its type
+    Overflow,
+    // seconds or nanoseconds of a day or week out of range
+    InvalidInput,
+    // a threshold that is not above the one before
+    NotStrictlyAscending,
+    // an offset that is not one more than the one before
+    NonUnitIncrement,
+    // 64 entries already, or a list of more than 64
+    BufferFull,
+    // a list of no entries to build from or to check
+    EmptyTable,
+    // the offset before is the largest
+    OffsetOverflow,
+    // a table that is not valid
+    BadTable,
+    // the offset used last is too low
+    OffsetRange,
+    // a program's line that breaks its form
+    BadLine,
+}
+
+impl Refusal {
+    // The number that hosts and programs are given.
+    pub fn number(self) -> u32
+        ensures { λ r. ⌜ r ≡ numberOf self ⌝ }
+    {
+        match self {
+            Refusal::Overflow => 1,
+            Refusal::InvalidInput => 2,
+            Refusal::NotStrictlyAscending => 3,
+            Refusal::NonUnitIncrement => 4,
+            Refusal::BufferFull => 5,
+            Refusal::EmptyTable => 6,
+            Refusal::OffsetOverflow => 7,
+            Refusal::BadTable => 8,
+            Refusal::OffsetRange => 9,
+            Refusal::BadLine => 10,
+        }
+    }
+}
