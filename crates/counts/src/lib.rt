@@ -2,6 +2,7 @@
 // Exact results are wider than 64 bits, so each sum goes by the sign of what is added, in steps that are tested first.
 pub mod sums;
 pub mod units;
+pub mod unix;
 
 use refusals::Refusal;
 

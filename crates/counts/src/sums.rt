@@ -1,12 +1,17 @@
 // A count and a duration: later, earlier, and the duration between two counts.
 ghost use mathlib.Core.Path.{_≡_};
 ghost use Prim.Native.Nat.{_+_};
-ghost use lib.IntN.{pos, negℤ, _+ℤ_, _-ℤ_};
+ghost use lib.IntN.{pos, negsuc, _+ℤ_, _-ℤ_};
 ghost use Rattle.counts.specs.Exact.{countOf, durationOf, nearestCount, stepOf};
 ghost use Rattle.counts.specs.Answers.{countIn, durationIn};
-
+use crate::CountAnswer;
+use crate::Duration;
+use crate::DurationAnswer;
 use refusals::Refusal;
-use crate::{CountAnswer, Duration, DurationAnswer};
+
+const LARGEST_COUNT: u64 = 18_446_744_073_709_551_615;
+
+const LARGEST_DURATION: u64 = 9_223_372_036_854_775_807;
 
 // A duration by its sign: so many nanoseconds forward, or so many back.
 pub enum Step {
@@ -29,7 +34,7 @@ pub fn by_sign(d: Duration) -> Step
 pub fn plus(n: u64, m: u64) -> CountAnswer
     ensures { λ r. ⌜ countIn r ≡ countOf (pos (n + m)) ⌝ }
 {
-    if m <= 18446744073709551615 - n {
+    if m <= LARGEST_COUNT - n {
         CountAnswer::Count(n + m)
     } else {
         CountAnswer::Refused(Refusal::Overflow)
@@ -63,5 +68,74 @@ pub fn earlier(n: u64, d: Duration) -> CountAnswer
     match by_sign(d) {
         Step::Forward(m) => minus(n, m),
         Step::Back(m) => plus(n, m),
+    }
+}
+
+pub fn plus_to_limit(n: u64, m: u64) -> u64
+    ensures { λ r. ⌜ r ≡ nearestCount (pos (n + m)) ⌝ }
+{
+    if m <= LARGEST_COUNT - n {
+        n + m
+    } else {
+        LARGEST_COUNT
+    }
+}
+
+pub fn minus_to_limit(n: u64, m: u64) -> u64
+    ensures { λ r. ⌜ r ≡ nearestCount (pos n -ℤ pos m) ⌝ }
+{
+    if m <= n { n - m } else { 0 }
+}
+
+// The count a duration later, or the limit that lies before it.
+pub fn later_to_limit(n: u64, d: Duration) -> u64
+    ensures { λ r. ⌜ r ≡ nearestCount (pos n +ℤ d .0) ⌝ }
+{
+    match by_sign(d) {
+        Step::Forward(m) => plus_to_limit(n, m),
+        Step::Back(m) => minus_to_limit(n, m),
+    }
+}
+
+// The count a duration earlier, or the limit that lies before it.
+pub fn earlier_to_limit(n: u64, d: Duration) -> u64
+    ensures { λ r. ⌜ r ≡ nearestCount (pos n -ℤ d .0) ⌝ }
+{
+    match by_sign(d) {
+        Step::Forward(m) => minus_to_limit(n, m),
+        Step::Back(m) => plus_to_limit(n, m),
+    }
+}
+
+// The duration of m nanoseconds.
+pub fn forward(m: u64) -> DurationAnswer
+    ensures { λ r. ⌜ durationIn r ≡ durationOf (pos m) ⌝ }
+{
+    if m <= LARGEST_DURATION {
+        DurationAnswer::Lasts(Duration(m as i64))
+    } else {
+        DurationAnswer::Refused(Refusal::Overflow)
+    }
+}
+
+// The duration of m nanoseconds and one more, back.
+pub fn back_past(m: u64) -> DurationAnswer
+    ensures { λ r. ⌜ durationIn r ≡ durationOf (negsuc m) ⌝ }
+{
+    if m <= LARGEST_DURATION {
+        DurationAnswer::Lasts(Duration(0 - (m as i64) - 1))
+    } else {
+        DurationAnswer::Refused(Refusal::Overflow)
+    }
+}
+
+// The duration from the count `start` to the count `end`.
+pub fn elapsed(end: u64, start: u64) -> DurationAnswer
+    ensures { λ r. ⌜ durationIn r ≡ durationOf (pos end -ℤ pos start) ⌝ }
+{
+    if start <= end {
+        forward(end - start)
+    } else {
+        back_past(start - end - 1)
     }
 }

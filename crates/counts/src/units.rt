@@ -1,1 +1,76 @@
-// Counts by seconds, days and weeks.
+// Counts by seconds, and by whole days or weeks with the rest of one.
+ghost use mathlib.Core.Path.{_≡_};
+ghost use Prim.Native.Nat.{_+_, _*_};
+ghost use lib.IntN.{pos};
+ghost use Rattle.counts.specs.Exact.{countOf};
+ghost use Rattle.counts.specs.Units.{second, partsOf, partsFrom, ofUnits};
+ghost use Rattle.counts.specs.Answers.{countIn, partsIn};
+use crate::CountAnswer;
+use crate::sums;
+use refusals::Refusal;
+
+pub const NANOS_PER_SECOND: u64 = 1_000_000_000;
+// 2^64 ns are 18,446,744,073 s and some
+const LARGEST_SECONDS: u64 = 18_446_744_073;
+
+// Whole seconds and the nanoseconds beside them.
+pub struct DurationParts {
+    pub seconds: u64,
+    pub nanos: u32,
+}
+
+// Parts, or why there are none.
+pub enum PartsAnswer {
+    Parts(DurationParts),
+    Refused(Refusal),
+}
+
+// The count of whole seconds and nanoseconds beside them.
+pub fn from_seconds_and(seconds: u64, nanos: u64) -> CountAnswer
+    ensures { λ r. ⌜ countIn r ≡ countOf (pos (seconds * second + nanos)) ⌝ }
+{
+    if seconds <= LARGEST_SECONDS {
+        sums::plus(seconds * NANOS_PER_SECOND, nanos)
+    } else {
+        CountAnswer::Refused(Refusal::Overflow)
+    }
+}
+
+// A count as whole seconds and the nanoseconds beside them.
+pub fn parts(n: u64) -> DurationParts
+    ensures { λ r. ⌜ r ≡ partsOf n ⌝ }
+{
+    DurationParts {
+        seconds: n / NANOS_PER_SECOND,
+        nanos: (n % NANOS_PER_SECOND) as u32,
+    }
+}
+
+impl DurationParts {
+    // Parts whose nanoseconds are less than a second.
+    pub fn new(seconds: u64, nanos: u32) -> PartsAnswer
+        ensures { λ r. ⌜ partsIn r ≡ partsFrom seconds nanos ⌝ }
+    {
+        if 1_000_000_000 <= nanos {
+            PartsAnswer::Refused(Refusal::InvalidInput)
+        } else {
+            PartsAnswer::Parts(DurationParts { seconds, nanos })
+        }
+    }
+}
+
+// The count of so many whole units and the rest of one, a unit being so many seconds.
+pub fn of_units(unit_seconds: u32, whole: u32, rest: DurationParts) -> CountAnswer
+    ensures { λ r. ⌜ countIn r ≡ ofUnits «unit_seconds» whole (rest .seconds) (rest .nanos) ⌝ }
+{
+    let unit = unit_seconds as u64;
+    let seconds = rest.seconds;
+    let nanos = rest.nanos;
+    if unit <= seconds {
+        return CountAnswer::Refused(Refusal::InvalidInput);
+    }
+    if 1_000_000_000 <= nanos {
+        return CountAnswer::Refused(Refusal::InvalidInput);
+    }
+    from_seconds_and((whole as u64) * unit + seconds, nanos as u64)
+}

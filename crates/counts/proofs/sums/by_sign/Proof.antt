@@ -1,35 +1,35 @@
+-- `by_sign` meets its contract: below 0 the number is turned round, else it is kept.
+use native.Mathlib.Omega.{arith}
+use Rattle.counts.proofs.BySign.{Turned, turned, Kept, kept}
 use Rattle.counts.proofs.sums.by_sign.Statement.{statement}
 use Rattle.counts.proofs.sums.by_sign.Tie as tie
-use Rattle.counts.proofs.sums.by_sign.Reads as reads
-use Rattle.counts.proofs.sums.by_sign.Lts as lts
 
--- src/sums.rt:23:26
+below : (c : tie.Then1) → Turned (c .before .before .args .d .0)
+below c = turned (c .before .before .args .d .0) (record { sfits = omega arith }) (c .if1 .taken)
+
+above : (c : tie.Else1) → Kept (c .before .before .args .d .0)
+above c = kept (c .before .before .args .d .0) (record { sfits = omega arith }) (c .if1 .left)
+
 add-t5 : tie.Need-add-t5
-add-t5 c = ?
+add-t5 c = below c .up-fits
 
--- src/sums.rt:23:21
 sub-t6 : tie.Need-sub-t6
-sub-t6 c = ?
+sub-t6 c = below c .over-fits
 
--- src/sums.rt:23:20
 cast-t7 : tie.Need-cast-t7
-cast-t7 c = ?
+cast-t7 c = below c .casts
 
--- src/sums.rt:23:20
 add-t8 : tie.Need-add-t8
-add-t8 c = ?
+add-t8 c = below c .more-fits
 
--- src/sums.rt:25:23
 cast-t9 : tie.Need-cast-t9
-cast-t9 c = ?
+cast-t9 c = above c .casts
 
--- src/sums.rt:17:1
 returns : tie.Need-returns
-returns c = ?
+returns c = below c .gives
 
--- src/sums.rt:17:1
 returns-2 : tie.Need-returns-2
-returns-2 c = ?
+returns-2 c = above c .gives
 
 pub by-sign-spec : {M : Type 1} → statement M
 by-sign-spec = tie.close (tie.spec add-t5 sub-t6 cast-t7 add-t8 cast-t9 returns returns-2)

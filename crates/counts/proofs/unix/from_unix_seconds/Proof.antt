@@ -1,0 +1,56 @@
+-- `from_unix_seconds` meets its contract: a number below the offset lies before the UTC epoch, and of any other the offset is taken.
+use mathlib.Core.Path.{_≡_, sym, ap, _∙_}
+use native.Mathlib.Omega.{arith}
+use borrow.Author.Needs.{needs}
+use mir.Facts.{toZ-ofZ}
+use Rattle.counts.specs.Exact.{countOf, stepOf}
+use Rattle.counts.specs.Units.{unixOffset}
+use Rattle.counts.proofs.BeforeEpoch.{back-seconds, early-seconds, seconds-from}
+use Rattle.counts.proofs.unix.from_unix_seconds.Statement.{statement}
+use Rattle.counts.proofs.unix.from_unix_seconds.Tie as tie
+
+-- what the call of `by_sign` says of the number itself
+signed : (c : tie.After-by-sign) → c .by-sign .result ≡ stepOf (c .before .args .seconds)
+signed c = c .by-sign .ensures ∙ ap stepOf (toZ-ofZ (c .before .fits .seconds))
+
+by-sign-requires : tie.Need-by-sign-requires
+by-sign-requires c κs = search needs
+
+enum-known-s : tie.Need-enum-known-s
+enum-known-s c = search needs
+
+from-seconds-and-requires : tie.Need-from-seconds-and-requires
+from-seconds-and-requires c κs = search needs
+
+enum-told : tie.Need-enum-told
+enum-told c = search needs
+
+returns : tie.Need-returns
+returns c =
+    let arm = c .before .before in
+    let called = arm .before .before in
+    early-seconds unixOffset (omega arith) (called .before .args .seconds) (sym (arm .s .given .1) ∙ signed called) (c .if1 .taken)
+
+returns-2 : tie.Need-returns-2
+returns-2 c =
+    let arm = c .before .before .before in
+    let called = arm .before .before in
+    c .from-seconds-and .ensures
+    ∙ sym (ap countOf (seconds-from unixOffset (omega arith) (called .before .args .seconds) (sym (arm .s .given .1) ∙ signed called) (c .before .if1 .left)))
+
+returns-3 : tie.Need-returns-3
+returns-3 c =
+    let called = c .before .before in
+    back-seconds unixOffset (omega arith) (called .before .args .seconds) (sym (c .enum-told .given .1) ∙ signed called)
+
+pub from-unix-seconds-spec : {M : Type 1} → statement M
+from-unix-seconds-spec =
+    tie.close
+    (tie.spec
+    by-sign-requires
+    enum-known-s
+    from-seconds-and-requires
+    enum-told
+    returns
+    returns-2
+    returns-3)
