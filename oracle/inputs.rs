@@ -84,9 +84,11 @@ impl RandomInputs {
 
     pub fn draw(&mut self) -> Vec<i128> {
         let mut drawn: Vec<i128> = Vec::with_capacity(self.inputs.len());
+        // in half of the draws one lower bound for all inputs, or they would seldom be small together
+        let most_bits = if self.below(2) == 0 { 64 } else { self.below(65) };
         for at in 0..self.inputs.len() {
             let number = loop {
-                let number = self.number(at, drawn.last().copied());
+                let number = self.number(at, drawn.last().copied(), most_bits);
                 if self.inputs[at].1.holds(number) {
                     break number;
                 }
@@ -96,14 +98,15 @@ impl RandomInputs {
         drawn
     }
 
-    /// A number for an input, which its kind may not hold: of any length in bits, or near an edge, or where
-    /// the sum or difference with the input before it is near an edge.
-    fn number(&mut self, at: usize, before: Option<i128>) -> i128 {
-        match (self.below(4), before) {
-            (0, _) => self.near_edge(at),
-            (1, Some(before)) => self.near_edge(at) + before,
-            (2, Some(before)) => self.near_edge(at) - before,
-            _ => self.of_length_up_to(64),
+    /// A number for an input, which its kind may not hold: any of 64 bits, or near an edge, or such that the sum
+    /// or difference with the input before it is near an edge, or of any length up to so many bits.
+    fn number(&mut self, at: usize, before: Option<i128>, most_bits: u64) -> i128 {
+        match (self.below(5), before) {
+            (0, _) => i128::from(self.next()) + self.inputs[at].1.least,
+            (1, _) => self.near_edge(at),
+            (2, Some(before)) => self.near_edge(at) + before,
+            (3, Some(before)) => self.near_edge(at) - before,
+            _ => self.of_length_up_to(most_bits),
         }
     }
 

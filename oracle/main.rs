@@ -16,7 +16,7 @@ const USAGE: &str = "\
 usage: oracle/run [--seed N] [--count N] [--record FILE]
   --seed N       where the random inputs start (20260101); the same seed gives the same run
   --count N      random inputs for each call, after all its edges (100000)
-  --record FILE  compare nothing, and write the recorded list of the crate's answers to FILE";
+  --record FILE  first write the recorded list of the crate's answers to FILE";
 
 struct Options {
     seed: u64,
@@ -32,10 +32,9 @@ fn main() -> ExitCode {
     compare::silence_the_crate();
     let calls = calls::calls();
     if let Some(file) = options.record {
-        return match std::fs::write(&file, record::recorded(&calls, options.seed)) {
-            Ok(()) => ExitCode::SUCCESS,
-            Err(error) => failed(&format!("cannot write {file}: {error}")),
-        };
+        if let Err(error) = std::fs::write(&file, record::recorded(&calls)) {
+            return failed(&format!("cannot write {file}: {error}"));
+        }
     }
     let disagreements = header::disagreements(&calls);
     if !disagreements.is_empty() {

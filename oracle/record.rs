@@ -3,20 +3,22 @@
 use crate::call::{Call, Written};
 use crate::compare::due;
 use crate::inputs::{EdgeInputs, RandomInputs};
-use std::collections::HashSet;
+use std::collections::{BTreeMap, BTreeSet, HashSet};
 use std::fmt::Write;
 
-/// Of each call: so many edges on both sides of a change between answer and refusal, so many others, and so
-/// many random inputs.
-const TURNS: usize = 10;
-const EDGES: usize = 10;
+/// Of each call: so many neighbouring edges for each change from one refusal (or an answer) to another, so many
+/// other edges, and so many random inputs.
+const TURNS: usize = 4;
+const EDGES: usize = 14;
 const RANDOMS: usize = 8;
+/// Of the random inputs; fixed, so that the list is the same whenever it is made.
+const SEED: u64 = 1;
 
-pub fn recorded(calls: &[Call], seed: u64) -> String {
-    let mut list = legend(calls, seed);
+pub fn recorded(calls: &[Call]) -> String {
+    let mut list = legend(calls);
     for (place, call) in calls.iter().enumerate() {
         let mut seen = HashSet::new();
-        for inputs in sample(call, seed) {
+        for inputs in sample(call) {
             let due = due(call, &inputs).written;
             let due = due.unwrap_or_else(|| panic!("the crate panics in {} on {inputs:?}", call.name));
             if seen.insert(inputs.clone()) {
@@ -27,9 +29,9 @@ pub fn recorded(calls: &[Call], seed: u64) -> String {
     list
 }
 
-fn legend(calls: &[Call], seed: u64) -> String {
+fn legend(calls: &[Call]) -> String {
     let mut legend = format!(
-        "# Answers of the crate gnss-time 0.9.1, made by: oracle/run --seed {seed} --record FILE\n\
+        "# Answers of the crate gnss-time 0.9.1, made by: oracle/run --record FILE (seed {SEED})\n\
          # A line: the call's number, its inputs, the number of the refusal (0: answered), the results.\n\
          # The calls, with their inputs and results:\n"
     );
@@ -41,32 +43,38 @@ fn legend(calls: &[Call], seed: u64) -> String {
     legend
 }
 
-fn sample(call: &Call, seed: u64) -> Vec<Vec<i128>> {
+fn sample(call: &Call) -> Vec<Vec<i128>> {
     let edges = EdgeInputs::of(call.inputs);
-    let mut turns = Vec::new();
-    let mut before = None;
-    for place in 0..edges.len() {
-        let refusal = due(call, &edges.at(place)).written.map(|written| written.refusal);
-        if place > 0 && refusal != before {
-            turns.push(place);
+    let mut places: BTreeSet<usize> = thinned(edges.len(), EDGES).collect();
+    for turns in turns(call, &edges).values() {
+        for turn in thinned(turns.len(), TURNS) {
+            places.extend([turns[turn] - 1, turns[turn]]);
         }
-        before = refusal;
     }
-    let mut places: Vec<usize> =
-        thinned(turns.len(), TURNS / 2).into_iter().flat_map(|turn| [turns[turn] - 1, turns[turn]]).collect();
-    places.extend(thinned(edges.len(), EDGES));
-    places.sort_unstable();
-    let mut random = RandomInputs::of(call.inputs, call.name, seed);
+    let mut random = RandomInputs::of(call.inputs, call.name, SEED);
     let drawn: Vec<Vec<i128>> = (0..RANDOMS).map(|_| random.draw()).collect();
     places.into_iter().map(|place| edges.at(place)).chain(drawn).collect()
 }
 
-/// So many places out of `0..len`, evenly spread, the first and the last among them.
-fn thinned(len: usize, wanted: usize) -> Vec<usize> {
-    if len <= wanted {
-        return (0..len).collect();
+/// The places where the refusal is not the one before, by the two refusals.
+fn turns(call: &Call, edges: &EdgeInputs) -> BTreeMap<[Option<u32>; 2], Vec<usize>> {
+    let refusal = |place| due(call, &edges.at(place)).written.map(|written| written.refusal);
+    let mut turns: BTreeMap<_, Vec<usize>> = BTreeMap::new();
+    let mut before = refusal(0);
+    for place in 1..edges.len() {
+        let now = refusal(place);
+        if now != before {
+            turns.entry([before, now]).or_default().push(place);
+        }
+        before = now;
     }
-    (0..wanted).map(|at| at * (len - 1) / (wanted - 1)).collect()
+    turns
+}
+
+/// So many places out of `0..len`, evenly spread, the first and the last among them.
+fn thinned(len: usize, wanted: usize) -> impl Iterator<Item = usize> {
+    let taken = len.min(wanted);
+    (0..taken).map(move |at| if taken == 1 { 0 } else { at * (len - 1) / (taken - 1) })
 }
 
 fn line(number: usize, inputs: &[i128], due: &Written) -> String {
