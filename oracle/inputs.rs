@@ -43,26 +43,39 @@ pub fn edges(kind: &Kind) -> Vec<i128> {
     edges
 }
 
-/// Every combination of the edges of a call's inputs, in order.
+/// The combinations of the edges of a call's inputs: all of them in order or, where those are too many to try,
+/// as many as can be tried, from all over.
 pub struct EdgeInputs {
     edges: Vec<Vec<i128>>,
+    combinations: u128,
 }
+
+const MOST_COMBINATIONS: u128 = 2_000_000;
+/// A prime above the number of edges of any input, so that its steps meet each combination once.
+const STEP: u128 = 1_000_000_007;
 
 impl EdgeInputs {
     pub fn of(inputs: &[Named]) -> EdgeInputs {
-        EdgeInputs { edges: inputs.iter().map(|(_, kind)| edges(kind)).collect() }
+        let edges: Vec<Vec<i128>> = inputs.iter().map(|(_, kind)| edges(kind)).collect();
+        let combinations = edges.iter().map(|edges| edges.len() as u128).product();
+        EdgeInputs { edges, combinations }
     }
 
     pub fn len(&self) -> usize {
-        self.edges.iter().map(Vec::len).product()
+        self.combinations.min(MOST_COMBINATIONS) as usize
     }
 
-    /// The combination at a place, the last input changing fastest.
-    pub fn at(&self, mut place: usize) -> Vec<i128> {
+    /// The combination at a place; where all are tried, the last input changes fastest.
+    pub fn at(&self, place: usize) -> Vec<i128> {
+        let mut place = place as u128;
+        if self.combinations > MOST_COMBINATIONS {
+            place = place * STEP % self.combinations;
+        }
         let mut inputs = vec![0; self.edges.len()];
         for (input, edges) in inputs.iter_mut().zip(&self.edges).rev() {
-            *input = edges[place % edges.len()];
-            place /= edges.len();
+            let many = edges.len() as u128;
+            *input = edges[(place % many) as usize];
+            place /= many;
         }
         inputs
     }
@@ -79,7 +92,7 @@ impl RandomInputs {
     pub fn of(inputs: &'static [Named], name: &str, seed: u64) -> RandomInputs {
         // each call has a row of numbers of its own, whatever other calls there are
         let state = name.bytes().fold(seed, |state, byte| mixed(state ^ u64::from(byte)));
-        RandomInputs { state, inputs, edges: EdgeInputs::of(inputs).edges }
+        RandomInputs { state, inputs, edges: inputs.iter().map(|(_, kind)| edges(kind)).collect() }
     }
 
     pub fn draw(&mut self) -> Vec<i128> {
