@@ -39,5 +39,5 @@ module _ (offset : ℕ) (later : 0 < offset) {m : ℕ} (z : ℤ) where
   pub early-seconds : Forward m ≡ stepOf z → m < offset → refused 1 ≡ countOf ((z -ℤ pos offset) *ℤ pos second)
   early-seconds e h = rw (forward-is z e, of-naturals m offset, below m offset h, seconds-below (offset - suc m))
 
-  pub seconds-from : Forward m ≡ stepOf z → offset ≤ m → (z -ℤ pos offset) *ℤ pos second ≡ pos ((m - offset) * second + 0)
-  seconds-from e h = rw (forward-is z e, of-naturals m offset, not-below m offset h) (ap pos (omega arith))
+  pub seconds-from : Forward m ≡ stepOf z → offset ≤ m → (z -ℤ pos offset) *ℤ pos second ≡ pos ((m - offset) * second)
+  seconds-from e h = rw (forward-is z e, of-naturals m offset, not-below m offset h)

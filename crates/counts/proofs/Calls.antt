@@ -15,6 +15,7 @@ use Rattle.counts.proofs.sums.forward.Reads as forward-contract
 use Rattle.counts.proofs.sums.back_past.Reads as back-past-contract
 use Rattle.counts.proofs.sums.elapsed.Reads as elapsed-contract
 use Rattle.counts.proofs.units.from_seconds_and.Reads as from-seconds-and-contract
+use Rattle.counts.proofs.units.from_seconds.Reads as from-seconds-contract
 use Rattle.counts.proofs.units.parts.Reads as parts-contract
 use Rattle.counts.proofs.units.DurationParts.new.Reads as duration-parts-new-contract
 use Rattle.counts.proofs.units.of_units.Reads as of-units-contract
@@ -61,6 +62,9 @@ elapsed κ a x y e f p q = viewed duration-tells x y p q
 
 pub from-seconds-and : OneAnswer from-seconds-and-contract.Post
 from-seconds-and κ a x y e f p q = viewed count-tells x y p q
+
+pub from-seconds : OneAnswer from-seconds-contract.Post
+from-seconds κ a x y e f p q = viewed count-tells x y p q
 
 pub parts : OneAnswer parts-contract.Post
 parts κ a x y e f p q = p ∙ sym q

@@ -7,6 +7,7 @@ use Rattle.refusals.proofs.Tells.{number-tells}
 use Rattle.counts.specs.Answers.{countIn, durationIn, partsIn}
 use Rattle.counts.specs.declared.CountAnswer.{CountAnswer}
 use Rattle.counts.specs.declared.CountAnswer.the-variants as count
+use Rattle.counts.specs.declared.Duration.{Duration}
 use Rattle.counts.specs.declared.DurationAnswer.{DurationAnswer}
 use Rattle.counts.specs.declared.DurationAnswer.the-variants as duration
 use Rattle.counts.specs.declared.units.PartsAnswer.{PartsAnswer}
@@ -20,10 +21,13 @@ count-tells (count.Refused r) (count.Refused s) e =
     let same : numberOf r ≡ numberOf s = cc in
     ap count.Refused (number-tells r s same)
 
+pub duration-number-tells : (x y : Duration) → x .0 ≡ y .0 → x ≡ y
+duration-number-tells x y e = ap (λ (z : ℤ). record { 0 = z }) e
+
 pub duration-tells : (x y : DurationAnswer) → durationIn x ≡ durationIn y → x ≡ y
 duration-tells (duration.Lasts d) (duration.Lasts f) e =
     let same : d .0 ≡ f .0 = cc in
-    ap (λ (z : ℤ). duration.Lasts (record { 0 = z })) same
+    ap duration.Lasts (duration-number-tells d f same)
 duration-tells (duration.Lasts d) (duration.Refused r) e = cc
 duration-tells (duration.Refused r) (duration.Lasts f) e = cc
 duration-tells (duration.Refused r) (duration.Refused s) e =

@@ -1,4 +1,4 @@
--- Seconds, days and weeks in nanoseconds, and counts made of them.
+-- Seconds in nanoseconds, days and weeks in seconds, and counts made of them.
 use mathlib.Core.Bool.{cond}
 use Prim.Native.Nat.{ℕ, _+_, _*_, _/_, _%_}
 use lib.Dec.{leb}
@@ -10,11 +10,11 @@ use Rattle.counts.specs.declared.units.DurationParts.{DurationParts}
 abbrev pub second : ℕ
 second = 1_000_000_000
 
-abbrev pub day : ℕ
-day = 86_400 * second
+abbrev pub daySeconds : ℕ
+daySeconds = 86_400
 
-abbrev pub week : ℕ
-week = 604_800 * second
+abbrev pub weekSeconds : ℕ
+weekSeconds = 604_800
 
 -- the seconds from 1970-01-01 to 1972-01-01
 abbrev pub unixOffset : ℕ

@@ -7,9 +7,8 @@ ghost use Rattle.counts.specs.Answers.{countIn, durationIn};
 use crate::CountAnswer;
 use crate::Duration;
 use crate::DurationAnswer;
+use crate::units::LARGEST_COUNT;
 use refusals::Refusal;
-
-const LARGEST_COUNT: u64 = 18_446_744_073_709_551_615;
 
 const LARGEST_DURATION: u64 = 9_223_372_036_854_775_807;
 

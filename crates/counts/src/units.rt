@@ -10,6 +10,10 @@ use crate::sums;
 use refusals::Refusal;
 
 pub const NANOS_PER_SECOND: u64 = 1_000_000_000;
+// of 365 days
+pub const NANOS_PER_YEAR: u64 = 31_536_000 * NANOS_PER_SECOND;
+
+pub const LARGEST_COUNT: u64 = 18_446_744_073_709_551_615;
 // 2^64 ns are 18,446,744,073 s and some
 const LARGEST_SECONDS: u64 = 18_446_744_073;
 
@@ -34,6 +38,13 @@ pub fn from_seconds_and(seconds: u64, nanos: u64) -> CountAnswer
     } else {
         CountAnswer::Refused(Refusal::Overflow)
     }
+}
+
+// The count of whole seconds.
+pub fn from_seconds(seconds: u64) -> CountAnswer
+    ensures { λ r. ⌜ countIn r ≡ countOf (pos (seconds * second)) ⌝ }
+{
+    from_seconds_and(seconds, 0)
 }
 
 // A count as whole seconds and the nanoseconds beside them.

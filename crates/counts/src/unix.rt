@@ -28,7 +28,7 @@ pub fn from_unix_seconds(seconds: i64) -> CountAnswer
             if s < UTC_EPOCH_UNIX_OFFSET_S {
                 CountAnswer::Refused(Refusal::Overflow)
             } else {
-                units::from_seconds_and(s - UTC_EPOCH_UNIX_OFFSET_S, 0)
+                units::from_seconds(s - UTC_EPOCH_UNIX_OFFSET_S)
             }
         }
         Step::Back(_) => CountAnswer::Refused(Refusal::Overflow),

@@ -19,8 +19,8 @@ by-sign-requires c κs = search needs
 enum-known-s : tie.Need-enum-known-s
 enum-known-s c = search needs
 
-from-seconds-and-requires : tie.Need-from-seconds-and-requires
-from-seconds-and-requires c κs = search needs
+from-seconds-requires : tie.Need-from-seconds-requires
+from-seconds-requires c κs = search needs
 
 enum-told : tie.Need-enum-told
 enum-told c = search needs
@@ -35,7 +35,7 @@ returns-2 : tie.Need-returns-2
 returns-2 c =
     let arm = c .before .before .before in
     let called = arm .before .before in
-    c .from-seconds-and .ensures
+    c .from-seconds .ensures
     ∙ sym (ap countOf (seconds-from unixOffset (omega arith) (called .before .args .seconds) (sym (arm .s .given .1) ∙ signed called) (c .before .if1 .left)))
 
 returns-3 : tie.Need-returns-3
@@ -49,7 +49,7 @@ from-unix-seconds-spec =
     (tie.spec
     by-sign-requires
     enum-known-s
-    from-seconds-and-requires
+    from-seconds-requires
     enum-told
     returns
     returns-2

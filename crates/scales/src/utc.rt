@@ -1,0 +1,136 @@
+// UTC: nanoseconds since 1972-01-01, the inserted seconds not counted.
+ghost use mathlib.Core.Path.{_≡_};
+ghost use Prim.Native.Nat.{_+_, _*_, _/_, _-_, _^_, min};
+ghost use lib.IntN.{pos, _+ℤ_, _-ℤ_, _*ℤ_};
+ghost use Rattle.counts.specs.Exact.{countOf, durationOf, nearestCount};
+ghost use Rattle.counts.specs.Units.{second, unixOffset, partsOf};
+ghost use Rattle.counts.specs.Answers.{countIn, durationIn};
+ghost use Rattle.scales.specs.Answers.{utcIn};
+use counts::CountAnswer;
+use counts::Duration;
+use counts::DurationAnswer;
+use counts::sums;
+use counts::units;
+use counts::units::DurationParts;
+use counts::unix;
+use refusals::Refusal;
+
+pub struct Utc(pub u64);
+
+// A UTC count, or why there is none.
+pub enum UtcAnswer {
+    Count(Utc),
+    Refused(Refusal),
+}
+
+impl UtcAnswer {
+    // A plain answer as one of this scale.
+    pub fn of(plain: CountAnswer) -> UtcAnswer
+        ensures { λ r. ⌜ utcIn r ≡ countIn plain ⌝ }
+    {
+        match plain {
+            CountAnswer::Count(n) => UtcAnswer::Count(Utc(n)),
+            CountAnswer::Refused(r) => UtcAnswer::Refused(r),
+        }
+    }
+}
+
+impl Utc {
+    pub const EPOCH: Utc = Utc(0);
+
+    pub const MIN: Utc = Utc(0);
+
+    pub const MAX: Utc = Utc(units::LARGEST_COUNT);
+
+    pub const NANOS_PER_YEAR: u64 = units::NANOS_PER_YEAR;
+
+    pub fn from_nanos(nanos: u64) -> Utc
+        ensures { λ r. ⌜ r .0 ≡ nanos ⌝ }
+    {
+        Utc(nanos)
+    }
+
+    pub fn as_nanos(self) -> u64
+        ensures { λ r. ⌜ r ≡ self .0 ⌝ }
+    {
+        self.0
+    }
+
+    pub fn checked_from_seconds(seconds: u64) -> UtcAnswer
+        ensures { λ r. ⌜ utcIn r ≡ countOf (pos (seconds * second)) ⌝ }
+    {
+        UtcAnswer::of(units::from_seconds(seconds))
+    }
+
+    // Whole seconds.
+    pub fn as_seconds(self) -> u64
+        ensures { λ r. ⌜ r ≡ self .0 / second ⌝ }
+    {
+        self.0 / units::NANOS_PER_SECOND
+    }
+
+    // Whole seconds and the nanoseconds beside them.
+    pub fn as_parts(self) -> DurationParts
+        ensures { λ r. ⌜ r ≡ partsOf (self .0) ⌝ }
+    {
+        units::parts(self.0)
+    }
+
+    pub fn checked_add(self, d: Duration) -> UtcAnswer
+        ensures { λ r. ⌜ utcIn r ≡ countOf (pos (self .0) +ℤ d .0) ⌝ }
+    {
+        UtcAnswer::of(sums::later(self.0, d))
+    }
+
+    pub fn checked_sub_duration(self, d: Duration) -> UtcAnswer
+        ensures { λ r. ⌜ utcIn r ≡ countOf (pos (self .0) -ℤ d .0) ⌝ }
+    {
+        UtcAnswer::of(sums::earlier(self.0, d))
+    }
+
+    // Stops at the first and the last count.
+    pub fn saturating_add(self, d: Duration) -> Utc
+        ensures { λ r. ⌜ r .0 ≡ nearestCount (pos (self .0) +ℤ d .0) ⌝ }
+    {
+        Utc(sums::later_to_limit(self.0, d))
+    }
+
+    // Stops at the first and the last count.
+    pub fn saturating_sub_duration(self, d: Duration) -> Utc
+        ensures { λ r. ⌜ r .0 ≡ nearestCount (pos (self .0) -ℤ d .0) ⌝ }
+    {
+        Utc(sums::earlier_to_limit(self.0, d))
+    }
+
+    // The duration since an earlier count, or, with a minus sign, to a later one.
+    pub fn checked_elapsed(self, earlier: Utc) -> DurationAnswer
+        ensures { λ r. ⌜ durationIn r ≡ durationOf (pos (self .0) -ℤ pos (earlier .0)) ⌝ }
+    {
+        sums::elapsed(self.0, earlier.0)
+    }
+
+    pub fn from_unix_seconds(seconds: i64) -> UtcAnswer
+        ensures { λ r. ⌜ utcIn r ≡ countOf ((seconds -ℤ pos unixOffset) *ℤ pos second) ⌝ }
+    {
+        UtcAnswer::of(unix::from_unix_seconds(seconds))
+    }
+
+    pub fn from_unix_nanos(nanos: i64) -> UtcAnswer
+        ensures { λ r. ⌜ utcIn r ≡ countOf (nanos -ℤ pos (unixOffset * second)) ⌝ }
+    {
+        UtcAnswer::of(unix::from_unix_nanos(nanos))
+    }
+
+    pub fn as_unix_seconds(self) -> i64
+        ensures { λ r. ⌜ r ≡ pos (self .0 / second + unixOffset) ⌝ }
+    {
+        unix::as_unix_seconds(self.0)
+    }
+
+    // Stops at the largest signed number.
+    pub fn as_unix_nanos(self) -> i64
+        ensures { λ r. ⌜ r ≡ pos (min (self .0 + unixOffset * second) (2 ^ 63 - 1)) ⌝ }
+    {
+        unix::as_unix_nanos(self.0)
+    }
+}
