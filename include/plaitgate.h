@@ -5,7 +5,7 @@
  *   GPS      from 1980-01-06
  *   UTC      from 1972-01-01, leap seconds not counted
  *   GLONASS  from 1996-01-01, in Moscow time
- *   TAI      as GPS, 19 s ahead of it: TAI = GPS + 19 s
+ *   TAI      from 1980-01-06 on the clock of TAI, so that it is the GPS count and 19 s
  * All counts have the C type uint64_t: that one scale is not taken for another is up to the caller.
  * A duration is a number of nanoseconds with sign, in 64 bits.
  *

@@ -22,6 +22,8 @@ pub struct Call {
     pub name: &'static str,
     pub inputs: &'static [Named],
     pub results: &'static [Named],
+    /// The declaration that the header has to have, without the semicolon.
+    pub prototype: String,
     /// The refusal that the rules give where the crate panics; `None` where it must not panic.
     pub panic_is: Option<u32>,
     pub original: fn(&[i128]) -> Outcome,
@@ -36,14 +38,14 @@ impl Call {
             Err(refusal) => Written { refusal, results: vec![0; self.results.len()], spilled: false },
         }
     }
+}
 
-    /// The declaration that the header has to have, without the semicolon.
-    pub fn prototype(&self) -> String {
-        let inputs = self.inputs.iter().map(|(name, kind)| format!("{} {name}", kind.c_name));
-        let results = self.results.iter().map(|(name, kind)| format!("{} *{name}", kind.c_name));
-        let parameters: Vec<String> = inputs.chain(results).collect();
-        format!("uint32_t plaitgate_{}({})", self.name, parameters.join(", "))
-    }
+/// The C declaration of a call whose inputs and results are numbers.
+pub fn prototype(name: &str, inputs: &[Named], results: &[Named]) -> String {
+    let inputs = inputs.iter().map(|(name, kind)| format!("{} {name}", kind.c_name));
+    let results = results.iter().map(|(name, kind)| format!("{} *{name}", kind.c_name));
+    let parameters: Vec<String> = inputs.chain(results).collect();
+    format!("uint32_t plaitgate_{name}({})", parameters.join(", "))
 }
 
 /// An entry of the table: `call!("name", (inputs) -> (results), what the crate answers)`, where the last part
@@ -80,10 +82,14 @@ macro_rules! call {
                 spilled: false $(|| $result.spilled::<$written>())*,
             }
         }
+        const NAME: &str = concat!($($part),+);
+        const INPUTS: &[$crate::call::Named] = &[$((stringify!($input), <$given>::KIND)),*];
+        const RESULTS: &[$crate::call::Named] = &[$((stringify!($result), <$written>::KIND)),*];
         $crate::call::Call {
-            name: concat!($($part),+),
-            inputs: &[$((stringify!($input), <$given>::KIND)),*],
-            results: &[$((stringify!($result), <$written>::KIND)),*],
+            name: NAME,
+            inputs: INPUTS,
+            results: RESULTS,
+            prototype: $crate::call::prototype(NAME, INPUTS, RESULTS),
             panic_is: $panic_is,
             original,
             port,

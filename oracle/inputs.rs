@@ -11,8 +11,7 @@ const YEAR_SECONDS: i128 = 365 * DAY_SECONDS;
 const UNIX_TO_UTC_SECONDS: i128 = 2 * YEAR_SECONDS;
 const GPS_TO_TAI_SECONDS: i128 = 19;
 /// The boundaries that a count may lie at, each as seconds and as nanoseconds.
-const UNITS_SECONDS: [i128; 6] =
-    [1, GPS_TO_TAI_SECONDS, DAY_SECONDS, WEEK_SECONDS, YEAR_SECONDS, UNIX_TO_UTC_SECONDS];
+const UNITS_SECONDS: [i128; 6] = [1, GPS_TO_TAI_SECONDS, DAY_SECONDS, WEEK_SECONDS, YEAR_SECONDS, UNIX_TO_UTC_SECONDS];
 
 /// The numbers around which answers change.
 fn marks() -> Vec<i128> {
@@ -133,7 +132,11 @@ impl RandomInputs {
     fn of_length_up_to(&mut self, most: u64) -> i128 {
         let bits = self.below(most + 1) as u32;
         let magnitude = i128::from(self.next().checked_shr(64 - bits).unwrap_or(0));
-        if self.below(2) == 0 { magnitude } else { -magnitude }
+        if self.below(2) == 0 {
+            magnitude
+        } else {
+            -magnitude
+        }
     }
 
     fn below(&mut self, bound: u64) -> u64 {
