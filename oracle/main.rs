@@ -1,5 +1,5 @@
 //! The oracle: the crate gnss-time and the port in one process, compared call by call.
-//! `oracle/run` builds it and runs it; `--help` says what it takes.
+//! `oracle/run` builds it and runs it.
 
 mod call;
 mod calls;
