@@ -1,0 +1,12 @@
+pub mod Tested
+pub mod Sums
+pub mod MarchYears
+pub mod Months
+pub mod Eras
+pub mod Lifting
+pub mod TooEarly
+pub mod Nanoseconds
+pub mod DayByDay
+pub mod DaySteps
+pub mod CalendarTheorems
+pub mod DateOfDay

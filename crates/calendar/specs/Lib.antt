@@ -1,0 +1,5 @@
+pub mod Calendar
+pub mod Formula
+pub mod March
+pub mod Dates
+pub mod Answers
