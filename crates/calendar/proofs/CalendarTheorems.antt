@@ -1,10 +1,10 @@
 -- For real dates the formula is the calendar, in every year, before year 0 too: the date of the day that it gives is the date, and the day that it gives to the date of a day is the day.
 use mathlib.Core.Path.{_≡_, refl, ap, sym, _∙_}
 use Prim.Native.Nat.{ℕ, zero, suc}
-use native.Mathlib.Omega.{arith}
 use lib.IntN.{ℤ, pos, negsuc, sucℤ, predℤ}
 use Rattle.calendar.specs.Calendar.{Date, Real, daysIn, next, prev, unixEpoch, dateOf}
 use Rattle.calendar.specs.Formula.{dayOf, era, yoe, doy, doe, formula}
+use Rattle.calendar.proofs.RealDates.{real}
 use Rattle.calendar.proofs.DayByDay.{next-real, prev-real, next-prev, prev-next}
 use Rattle.calendar.proofs.DaySteps.{next-day, prev-day, day-zero}
 
@@ -21,7 +21,7 @@ CalendarGivesTheDate = (d : Date) → Real d → dateOf (dayOf d) ≡ d
 -- their proofs
 epoch-real : Real unixEpoch
 unfolding daysIn
-epoch-real = record { month-from = omega arith; month-to = omega arith; day-from = omega arith; day-to = omega arith }
+epoch-real = real unixEpoch tt
 
 pub real-date : EveryDayHasARealDate
 unfolding dateOf

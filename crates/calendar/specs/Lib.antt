@@ -3,3 +3,4 @@ pub mod Formula
 pub mod March
 pub mod Dates
 pub mod Answers
+pub mod Epochs

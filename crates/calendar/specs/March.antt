@@ -1,4 +1,4 @@
--- Years that begin on 1 March, counted from 0000-03-01: only the contracts of inner functions speak of them.
+-- Years that begin on 1 March, counted from 0000-03-01: only the contracts of private functions speak of them.
 use mathlib.Core.Path.{_≡_}
 use Prim.Native.Nat.{ℕ, suc, _+_, _-_, _*_, _/_, _≤_, _<_, _^_}
 use lib.IntN.{ℤ, subℕ}

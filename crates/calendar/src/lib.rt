@@ -1,6 +1,7 @@
 // Civil dates of the Gregorian calendar, the days between them, and the epochs of the time scales: epoch.rs, and the two
 // directions of civil.rs. Any field is taken; real dates follow the calendar, the rest the formula.
-pub mod inner;
+pub mod engine;
+pub mod epochs;
 
 ghost use mathlib.Core.Path.{_≡_};
 ghost use Prim.Native.Nat.{_*_};
@@ -53,7 +54,7 @@ fn too_early(date: CivilDate) -> bool
 fn days_between(from: CivilDate, to: CivilDate) -> i64
     ensures { λ r. ⌜ r ≡ daysBetween (dateIn from) (dateIn to) ⌝ }
 {
-    inner::days_of_date(to) - inner::days_of_date(from)
+    engine::days_of_date(to) - engine::days_of_date(from)
 }
 
 // Days in nanoseconds.
@@ -83,7 +84,7 @@ impl CivilDate {
         if too_early(self) {
             SpanAnswer::Refused(Refusal::Overflow)
         } else {
-            SpanAnswer::Span(inner::days_of_date(self))
+            SpanAnswer::Span(engine::days_of_date(self))
         }
     }
 

@@ -8,8 +8,8 @@ use mir.Syntax.{w32, w64}
 use mir.Facts.{toZ-ofZ}
 use Rattle.calendar.specs.March.{Lifted}
 use Rattle.calendar.proofs.Eras.{of-lifted}
-use Rattle.calendar.proofs.inner.days_of_date.Statement.{statement}
-use Rattle.calendar.proofs.inner.days_of_date.Tie as tie
+use Rattle.calendar.proofs.engine.days_of_date.Statement.{statement}
+use Rattle.calendar.proofs.engine.days_of_date.Tie as tie
 
 lifted-requires : tie.Need-lifted-requires
 lifted-requires c κs = search needs

@@ -6,8 +6,8 @@ use lib.IntN.{ℤ}
 use mir.Syntax.{w32}
 use mir.Facts.{toZ-pos}
 use Rattle.calendar.specs.Calendar.{on}
-use Rattle.calendar.proofs.inner.date_of.Statement.{statement}
-use Rattle.calendar.proofs.inner.date_of.Tie as tie
+use Rattle.calendar.proofs.engine.date_of.Statement.{statement}
+use Rattle.calendar.proofs.engine.date_of.Tie as tie
 
 cast-t4 : tie.Need-cast-t4
 cast-t4 c = search needs

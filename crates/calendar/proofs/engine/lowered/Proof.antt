@@ -8,8 +8,8 @@ use mir.Val.{SFits, toZ}
 use mir.Facts.{toZ-ofZ, toZ-pos}
 use Rattle.counts.proofs.Difference.{of-naturals}
 use Rattle.calendar.proofs.Sums.{magnitude}
-use Rattle.calendar.proofs.inner.lowered.Statement.{statement}
-use Rattle.calendar.proofs.inner.lowered.Tie as tie
+use Rattle.calendar.proofs.engine.lowered.Statement.{statement}
+use Rattle.calendar.proofs.engine.lowered.Tie as tie
 
 read : (c : tie.Start) → toZ w64 (c .args .day) -ℤ pos 784353144339 ≡ subℕ (c .args .day) 784353144339
 read c =

@@ -4,8 +4,8 @@ use mathlib.Core.Path.{_∙_}
 use native.Mathlib.Omega.{arith}
 use Rattle.calendar.proofs.DateOfDay.{within-366, early, late}
 use borrow.Author.Needs.{needs}
-use Rattle.calendar.proofs.inner.date_of_utc_day.Statement.{statement}
-use Rattle.calendar.proofs.inner.date_of_utc_day.Tie as tie
+use Rattle.calendar.proofs.engine.date_of_utc_day.Statement.{statement}
+use Rattle.calendar.proofs.engine.date_of_utc_day.Tie as tie
 
 add-year-holding : tie.Need-add-year-holding
 add-year-holding c = search needs

@@ -1,8 +1,8 @@
 -- The year that holds a day is found by the day's last quarter.
 use borrow.Author.Needs.{needs}
 use Rattle.calendar.proofs.MarchYears.{held}
-use Rattle.calendar.proofs.inner.year_holding.Statement.{statement}
-use Rattle.calendar.proofs.inner.year_holding.Tie as tie
+use Rattle.calendar.proofs.engine.year_holding.Statement.{statement}
+use Rattle.calendar.proofs.engine.year_holding.Tie as tie
 
 mul-quarter : tie.Need-mul-quarter
 mul-quarter c = search needs

@@ -5,8 +5,8 @@ use native.Mathlib.Omega.{arith}
 use borrow.Author.Needs.{needs}
 use Rattle.calendar.specs.March.{daysInYears}
 use Rattle.calendar.proofs.MarchYears.{hundreds-fewer}
-use Rattle.calendar.proofs.inner.days_before_year.Statement.{statement}
-use Rattle.calendar.proofs.inner.days_before_year.Tie as tie
+use Rattle.calendar.proofs.engine.days_before_year.Statement.{statement}
+use Rattle.calendar.proofs.engine.days_before_year.Tie as tie
 
 mul-result : tie.Need-mul-result
 mul-result c = search needs

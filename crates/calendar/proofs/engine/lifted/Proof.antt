@@ -10,8 +10,8 @@ use mir.Facts.{toZ-ofZ}
 use Rattle.counts.proofs.Signed.{widens, widened}
 use Rattle.calendar.specs.March.{Lifted}
 use Rattle.calendar.proofs.Lifting.{Raised, raised}
-use Rattle.calendar.proofs.inner.lifted.Statement.{statement}
-use Rattle.calendar.proofs.inner.lifted.Tie as tie
+use Rattle.calendar.proofs.engine.lifted.Statement.{statement}
+use Rattle.calendar.proofs.engine.lifted.Tie as tie
 
 module _ (c : tie.Start) where
   up : Raised (c .args .year)
