@@ -9,6 +9,10 @@ use Rattle.counts.specs.Units.{second, daySeconds}
 use Rattle.calendar.specs.Calendar.{Date}
 use Rattle.calendar.specs.Formula.{dayOf}
 
+-- the Unix day of 1972-01-01, where UTC counts begin
+abbrev pub utcEpochDay : ℕ
+utcEpochDay = 730
+
 -- the year −2,147,483,648, before which there is none of 32 bits
 abbrev pub leastYear : ℤ → Bool
 leastYear (pos a) = false

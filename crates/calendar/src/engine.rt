@@ -6,6 +6,7 @@ ghost use lib.IntN.{pos, subℕ};
 ghost use Rattle.calendar.specs.Calendar.{on, dateOf};
 ghost use Rattle.calendar.specs.Formula.{dayOf, monthStart};
 ghost use Rattle.calendar.specs.March.{daysInYears, InYear, InMonth, liftEras, Lifted};
+ghost use Rattle.calendar.specs.Dates.{utcEpochDay};
 ghost use Rattle.calendar.specs.Answers.{dateIn};
 use crate::CivilDate;
 
@@ -120,9 +121,9 @@ fn date_of(year: u64, month: u64, day: u64) -> CivilDate
     }
 }
 
-// The date of a day from 1972-01-01 on, Unix day 730.
+// The date of a day from 1972-01-01 on, day 0.
 pub fn date_of_utc_day(day: u32) -> CivilDate
-    ensures { λ r. ⌜ dateIn r ≡ dateOf (pos (day + 730)) ⌝ }
+    ensures { λ r. ⌜ dateIn r ≡ dateOf (pos (day + utcEpochDay)) ⌝ }
 {
     let held = year_holding(day as u64 + UTC_EPOCH_DAY);
     let month = month_holding(held.day);
