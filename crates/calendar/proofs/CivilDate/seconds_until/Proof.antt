@@ -1,0 +1,55 @@
+-- The seconds of the days between two dates fit, so a date is refused exactly where its days are.
+use mathlib.Core.Path.{_≡_, sym, ap, subst, _∙_}
+use native.Mathlib.Omega.{arith}
+use lib.IntN.{ℤ, pos, _*ℤ_}
+use mir.Syntax.{w64}
+use mir.Val.{SFits, toZ, ofZ}
+use mir.Facts.{toZ-ofZ}
+use Rattle.refusals.specs.Outcome.{answered}
+use Rattle.calendar.specs.Answers.{dateIn, spanIn}
+use Rattle.calendar.specs.Dates.{daysBetween}
+use Rattle.calendar.proofs.Lifting.{Sized, Apart, apart, days-fit, seconds-fit}
+use Rattle.calendar.proofs.TooEarly.{Given, given, refuses}
+use borrow.Author.Needs.{needs}
+use Rattle.calendar.proofs.CivilDate.seconds_until.Statement.{statement}
+use Rattle.calendar.proofs.CivilDate.seconds_until.Tie as tie
+
+days-until-requires : tie.Need-days-until-requires
+days-until-requires c κs = search needs
+
+enum-known-days : tie.Need-enum-known-days
+enum-known-days c = search needs
+
+module _ (c : tie.After-known-told) where
+  abbrev start : tie.Start
+  start = c .before .before .before .before
+
+  spans : Given (dateIn (start .args .self)) (dateIn (start .args .other)) (c .before .days .given .0 .0)
+  spans = given _ _ _ (ap spanIn (sym (c .before .days .given .1)) ∙ c .before .before .before .days-until .ensures)
+
+  between : Apart (daysBetween (dateIn (start .args .self)) (dateIn (start .args .other)))
+  between = apart (dateIn (start .args .self)) (dateIn (start .args .other)) (record { year = omega arith; month = omega arith; day = omega arith }) (record { year = omega arith; month = omega arith; day = omega arith })
+
+  read : toZ w64 (ofZ w64 (c .before .days .given .0 .0)) *ℤ pos 86400 ≡ daysBetween (dateIn (start .args .self)) (dateIn (start .args .other)) *ℤ pos 86400
+  read = ap (λ (z : ℤ). z *ℤ pos 86400) (toZ-ofZ {w = w64} (subst (SFits w64) (sym (spans .days)) (days-fit between)) ∙ spans .days)
+
+  fits : SFits w64 (toZ w64 (ofZ w64 (c .before .days .given .0 .0)) *ℤ pos 86400)
+  fits = subst (SFits w64) (sym read) (seconds-fit between)
+
+mul-t7 : tie.Need-mul-t7
+mul-t7 c = fits c
+
+enum-known-r : tie.Need-enum-known-r
+enum-known-r c = search needs
+
+returns : tie.Need-returns
+returns c = ap (λ (z : ℤ). answered z) (toZ-ofZ (fits c) ∙ read c) ∙ spans c .gives _
+
+returns-2 : tie.Need-returns-2
+returns-2 c =
+    let s = c .before .before .before in
+    refuses (dateIn (s .before .args .self)) (dateIn (s .before .args .other)) _ (ap spanIn (sym (c .before .r .given .1)) ∙ s .days-until .ensures) _
+
+pub seconds-until-spec : {M : Type 1} → statement M
+seconds-until-spec =
+    tie.close (tie.spec days-until-requires enum-known-days mul-t7 enum-known-r returns returns-2)

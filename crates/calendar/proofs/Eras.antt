@@ -1,0 +1,147 @@
+-- Every year is a natural year so many eras of 400 years before, and the formula, like the calendar, does not tell eras apart: so a day of any year is counted in naturals.
+use Prim.Native.Nat.{ℕ, zero, suc, _+_, _-_, _*_, _/_, _%_, _≤_, _<_}
+use mathlib.Core.Path.{_≡_, refl, ap, sym, _∙_}
+use mathlib.Core.Logic.{_⊎_, inl, inr}
+use mathlib.Core.Bool.{Bool, true, false, not, _&&_, _||_, cond}
+use native.Mathlib.Omega.{arith}
+use native.Mathlib.Decide.{decLt}
+use lib.Dec.{eqb, ltb, eqb·zero-suc, eqb·suc-zero}
+use lib.IntN.{ℤ, pos, negsuc, negℤ, predℤ, subℕ, natAbs, _+ℤ_, _-ℤ_, _*ℤ_}
+use lib.Signed.{quotZ}
+use Rattle.counts.proofs.Difference.{not-below, below, same, of-naturals, less}
+use Rattle.calendar.specs.Calendar.{divides, leap}
+use Rattle.calendar.specs.Formula.{fromMarch, marchYear, era, yoe, doy, doe, monthStart, formula}
+use Rattle.calendar.specs.March.{daysInYears, liftEras, Lifted}
+use Rattle.calendar.proofs.Sums.{one-less, sum, difference, times}
+use Rattle.calendar.proofs.MarchYears.{of-era, hundreds-fewer}
+
+-- ---- a natural year for each year
+pub record Above (y : ℤ) : Type 0 where
+  pub years : ℕ
+  pub eras : ℕ
+  pub is : y ≡ subℕ years (400 * eras)
+  pub low : 1 ≤ years
+
+pub above : (y : ℤ) → Above y
+above (pos a) =
+    record { years = a + 400; eras = 1; is = sym (not-below (a + 400) 400 (omega arith) ∙ ap pos (omega arith)); low = omega arith }
+above (negsuc a) =
+    record {
+      years = 399 * suc a + 400;
+      eras = suc a + 1;
+      is = sym (below (399 * suc a + 400) (400 * (suc a + 1)) (omega arith) ∙ ap negsuc (omega arith));
+      low = omega arith;
+    }
+
+-- ---- leap years
+zero-alike : (a b : ℕ) → (a ≡ 0 → b ≡ 0) → (b ≡ 0 → a ≡ 0) → eqb a 0 ≡ eqb b 0
+zero-alike zero zero p q = refl
+zero-alike zero (suc b) p q = let e : suc b ≡ 0 = p refl in absurd (omega arith)
+zero-alike (suc a) zero p q = let e : suc a ≡ 0 = q refl in absurd (omega arith)
+zero-alike (suc a) (suc b) p q = eqb·suc-zero a ∙ sym (eqb·suc-zero b)
+
+module _ (n e : ℕ) where
+  -- 400 divides the sum or the difference of the two years
+  alike : (a : ℕ) → (a + n ≡ 400 * e) ⊎ (a + 400 * e ≡ n) → leap (pos a) ≡ leap (pos n)
+  alike a h = λ i. fourth h i && (not (hundredth h i) || era-first h i)
+    where
+      fourth : (a + n ≡ 400 * e) ⊎ (a + 400 * e ≡ n) → eqb (a % 4) 0 ≡ eqb (n % 4) 0
+      fourth (inl s) = zero-alike (a % 4) (n % 4) (λ z. omega arith) (λ z. omega arith)
+      fourth (inr s) = zero-alike (a % 4) (n % 4) (λ z. omega arith) (λ z. omega arith)
+
+      hundredth : (a + n ≡ 400 * e) ⊎ (a + 400 * e ≡ n) → eqb (a % 100) 0 ≡ eqb (n % 100) 0
+      hundredth (inl s) = zero-alike (a % 100) (n % 100) (λ z. omega arith) (λ z. omega arith)
+      hundredth (inr s) = zero-alike (a % 100) (n % 100) (λ z. omega arith) (λ z. omega arith)
+
+      era-first : (a + n ≡ 400 * e) ⊎ (a + 400 * e ≡ n) → eqb (a % 400) 0 ≡ eqb (n % 400) 0
+      era-first (inl s) = zero-alike (a % 400) (n % 400) (λ z. omega arith) (λ z. omega arith)
+      era-first (inr s) = zero-alike (a % 400) (n % 400) (λ z. omega arith) (λ z. omega arith)
+
+  pub same-leap : leap (subℕ n (400 * e)) ≡ leap (pos n)
+  same-leap = by-order (decLt n (400 * e))
+    where
+      by-order : Dec (n < 400 * e) → leap (subℕ n (400 * e)) ≡ leap (pos n)
+      by-order (yes l) = ap leap (below n (400 * e) l) ∙ alike (suc (400 * e - suc n)) (inl (omega arith))
+      by-order (no g) =
+          let h : 400 * e ≤ n = omega (arith, g) in
+          ap leap (not-below n (400 * e) h) ∙ alike (n - 400 * e) (inr (omega arith))
+
+-- ---- the formula
+era-onward : (a : ℕ) → era (pos a) ≡ pos (a / 400)
+unfolding era
+era-onward a = refl
+
+era-back : (a : ℕ) → era (negsuc a) ≡ negsuc (a / 400)
+unfolding era
+era-back a = ap (λ (q : ℕ). negℤ (pos q)) up
+  where
+    up : suc (suc (a + 398)) / 400 ≡ suc (a / 400)
+    up = omega arith
+
+-- days in a natural year up to a day of a month
+abbrev pub marchOf : ℕ → ℕ → ℕ
+marchOf n m = cond (ltb 2 m) n (n - 1)
+
+abbrev pub dayNumber : ℕ → ℕ → ℕ → ℕ
+dayNumber n m d = daysInYears (marchOf n m) + (monthStart (fromMarch m) + d)
+
+module _ (n e : ℕ) where
+  same-era : era (subℕ n (400 * e)) ≡ subℕ (n / 400) e
+  same-era = by-order (decLt n (400 * e))
+    where
+      by-order : Dec (n < 400 * e) → era (subℕ n (400 * e)) ≡ subℕ (n / 400) e
+      by-order (yes l) =
+          ap era (below n (400 * e) l) ∙ era-back (400 * e - suc n)
+          ∙ sym (below (n / 400) e (omega arith) ∙ ap negsuc (omega arith))
+      by-order (no g) =
+          let h : 400 * e ≤ n = omega (arith, g) in
+          ap era (not-below n (400 * e) h) ∙ era-onward (n - 400 * e) ∙ sym (not-below (n / 400) e (omega arith) ∙ ap pos (omega arith))
+
+  same-yoe : yoe (subℕ n (400 * e)) ≡ pos (n % 400)
+  unfolding yoe
+  same-yoe =
+      ap (λ (z : ℤ). subℕ n (400 * e) -ℤ z *ℤ pos 400) same-era
+      ∙ ap (λ (z : ℤ). subℕ n (400 * e) -ℤ z) (times (n / 400) e 400)
+      ∙ difference n (400 * e) (n / 400 * 400) (e * 400)
+      ∙ not-below (n + e * 400) (400 * e + n / 400 * 400) (omega arith) ∙ ap pos (omega arith)
+
+  abbrev of-era-year : ℕ
+  of-era-year = n % 400 * 365 + n % 400 / 4
+
+  -- the formula's last three lines, at a year that begins in March
+  from-march : (m d : ℕ) → era (subℕ n (400 * e)) *ℤ pos 146097 +ℤ doe (subℕ n (400 * e)) m d -ℤ pos 719468 ≡ subℕ (daysInYears n + (monthStart m + d)) (146097 * e + 719469)
+  unfolding doe doy
+  from-march m d =
+      (λ i. (ap (λ (z : ℤ). z *ℤ pos 146097) same-era ∙ times (n / 400) e 146097) i +ℤ (in-year i +ℤ of-naturals (monthStart m + d) 1 i) -ℤ pos 719468)
+      ∙ ap (λ (z : ℤ). subℕ (n / 400 * 146097) (e * 146097) +ℤ z -ℤ pos 719468) (sum of-era-year (n % 400 / 100) (monthStart m + d) 1)
+      ∙ ap (λ (z : ℤ). z -ℤ pos 719468) (sum (n / 400 * 146097) (e * 146097) (of-era-year + (monthStart m + d)) (n % 400 / 100 + 1))
+      ∙ less (n / 400 * 146097 + (of-era-year + (monthStart m + d))) (e * 146097 + (n % 400 / 100 + 1)) 719468
+      ∙ same _ _ _ _ (sums (daysInYears n) (n / 400 * 146097) (n % 400 * 365 + n % 400 / 4) (n % 400 / 100) (monthStart m + d) (of-era n) (omega (arith, hundreds-fewer (n % 400))))
+    where
+      in-year : yoe (subℕ n (400 * e)) *ℤ pos 365 +ℤ quotZ (yoe (subℕ n (400 * e))) (pos 4) -ℤ quotZ (yoe (subℕ n (400 * e))) (pos 100) ≡ subℕ of-era-year (n % 400 / 100)
+      in-year =
+          ap (λ (z : ℤ). z *ℤ pos 365 +ℤ quotZ z (pos 4) -ℤ quotZ z (pos 100)) same-yoe
+          ∙ of-naturals of-era-year (n % 400 / 100)
+
+      sums : (y q r c k : ℕ) → y ≡ q + (r - c) → c ≤ r → q + (r + k) + (146097 * e + 719469) ≡ y + k + (e * 146097 + (c + 1) + 719468)
+      sums y q r c k h l = omega arith
+
+  same-march : (b : Bool) → 1 ≤ n → cond b (subℕ n (400 * e)) (predℤ (subℕ n (400 * e))) ≡ subℕ (cond b n (n - 1)) (400 * e)
+  same-march true low = refl
+  same-march false low = one-less n (400 * e) low
+
+-- the Unix day of any fields, counted in naturals
+pub counted : (y : ℤ) (m d n e : ℕ) → y ≡ subℕ n (400 * e) → 1 ≤ n → formula y m d ≡ subℕ (dayNumber n m d) (146097 * e + 719469)
+unfolding formula
+counted y m d n e is low =
+    ap (λ (z : ℤ). era z *ℤ pos 146097 +ℤ doe z (fromMarch m) d -ℤ pos 719468) (ap (λ (z : ℤ). marchYear z m) is ∙ same-march n e (ltb 2 m) low)
+    ∙ from-march (marchOf n m) e (fromMarch m) d
+
+-- the same of a lifted year, from its parts
+pub of-lifted : (y : ℤ) (m d n before-year before-month : ℕ) → Lifted y n → before-year ≡ daysInYears (marchOf n m) → before-month ≡ monthStart (fromMarch m) → subℕ (before-year + before-month + d) (146097 * liftEras + 719469) ≡ formula y m d
+of-lifted y m d n b s l e f =
+    ap (λ (k : ℕ). subℕ k (146097 * liftEras + 719469)) ((λ i. e i + f i + d) ∙ sums (daysInYears (marchOf n m)) (monthStart (fromMarch m)))
+    ∙ sym (counted y m d n liftEras (l .is) (l .low))
+  where
+    sums : (a c : ℕ) → a + c + d ≡ a + (c + d)
+    sums a c = omega arith

@@ -1,0 +1,16 @@
+pub mod Tested
+pub mod Sums
+pub mod MarchYears
+pub mod Months
+pub mod Eras
+pub mod Lifting
+pub mod TooEarly
+pub mod Nanoseconds
+pub mod RealDates
+pub mod DayByDay
+pub mod DaySteps
+pub mod CalendarTheorems
+pub mod DateOfDay
+pub mod EpochTheorems
+pub mod Tells
+pub mod Calls

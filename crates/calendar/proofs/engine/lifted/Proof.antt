@@ -1,0 +1,46 @@
+-- A year of 32 bits and 2,147,484,000 make a number that is not negative and far below 2 ^ 63.
+use mathlib.Core.Path.{_≡_, sym, ap, subst, _∙_}
+use native.Mathlib.Omega.{arith}
+use lib.Dec.{T}
+use lib.IntN.{ℤ, pos, natAbs, _+ℤ_}
+use lib.Signed.{nonNeg}
+use mir.Syntax.{w32, w64}
+use mir.Val.{Fits, SFits, toZ, ofZ}
+use mir.Facts.{toZ-ofZ}
+use Rattle.counts.proofs.Signed.{widens, widened}
+use Rattle.calendar.specs.March.{Lifted}
+use Rattle.calendar.proofs.Lifting.{Raised, raised}
+use Rattle.calendar.proofs.engine.lifted.Statement.{statement}
+use Rattle.calendar.proofs.engine.lifted.Tie as tie
+
+module _ (c : tie.Start) where
+  up : Raised (c .args .year)
+  up = raised (c .args .year) (c .fits .year .sfits)
+
+  abbrev added : ℤ
+  added = toZ w64 (ofZ w64 (toZ w32 (ofZ w32 (c .args .year)))) +ℤ pos 2147484000
+
+  sum : added ≡ pos (up .by)
+  sum = ap (λ (z : ℤ). z +ℤ pos 2147484000) (widened tt (c .fits .year)) ∙ up .sum
+
+  fits : SFits w64 added
+  fits = subst (SFits w64) (sym sum) (record { sfits = omega (arith, up .lifted .high) })
+
+  read : toZ w64 (ofZ w64 added) ≡ pos (up .by)
+  read = toZ-ofZ fits ∙ sum
+
+cast-result : tie.Need-cast-result
+cast-result c = widens tt (c .fits .year)
+
+add-result : tie.Need-add-result
+add-result c = fits c
+
+cast-result-2 : tie.Need-cast-result-2
+cast-result-2 c =
+    subst (λ (z : ℤ). T (nonNeg z) × Fits w64 (natAbs z)) (sym (read c)) (tt, record { fits = omega (arith, up c .lifted .high) })
+
+returns : tie.Need-returns
+returns c = subst (λ (z : ℤ). Lifted (c .args .year) (natAbs z)) (sym (read c)) (up c .lifted)
+
+pub lifted-spec : {M : Type 1} → statement M
+lifted-spec = tie.close (tie.spec cast-result add-result cast-result-2 returns)

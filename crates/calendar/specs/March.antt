@@ -1,0 +1,29 @@
+-- Years that begin on 1 March, counted from 0000-03-01: only the contracts of private functions speak of them.
+use mathlib.Core.Path.{_≡_}
+use Prim.Native.Nat.{ℕ, suc, _+_, _-_, _*_, _/_, _≤_, _<_, _^_}
+use lib.IntN.{ℤ, subℕ}
+use Rattle.calendar.specs.Formula.{monthStart}
+
+-- days in the first y years
+abbrev pub daysInYears : ℕ → ℕ
+daysInYears y = 365 * y + y / 4 + y / 400 - y / 100
+
+-- day n, from 0 on, is day k of year y
+pub record InYear (n y k : ℕ) : Type 0 where
+  pub begun : daysInYears y + k ≡ n
+  pub ahead : n < daysInYears (suc y)
+
+-- day k of a year lies in its month m
+pub record InMonth (k m : ℕ) : Type 0 where
+  pub few : m < 12
+  pub begun : monthStart m ≤ k
+  pub ahead : k < monthStart (suc m)
+
+-- eras of 400 years by which a year of 32 bits is lifted above 0
+abbrev pub liftEras : ℕ
+liftEras = 5368710
+
+pub record Lifted (y : ℤ) (l : ℕ) : Type 0 where
+  pub is : y ≡ subℕ l (400 * liftEras)
+  pub low : 1 ≤ l
+  pub high : l < 2 ^ 33

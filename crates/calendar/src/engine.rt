@@ -1,0 +1,136 @@
+// The two directions between a date and its day, each one function, and the steps that they are made of.
+// Years begin here on 1 March, so that a leap day is the last of its year: day 0 is 0000-03-01, and month 0 is March.
+ghost use mathlib.Core.Path.{_≡_};
+ghost use Prim.Native.Nat.{_+_, _*_, _<_, _^_};
+ghost use lib.IntN.{pos, subℕ};
+ghost use Rattle.calendar.specs.Calendar.{on, dateOf};
+ghost use Rattle.calendar.specs.Formula.{dayOf, monthStart};
+ghost use Rattle.calendar.specs.March.{daysInYears, InYear, InMonth, liftEras, Lifted};
+ghost use Rattle.calendar.specs.Dates.{utcEpochDay};
+ghost use Rattle.calendar.specs.Answers.{dateIn};
+use crate::CivilDate;
+
+// An era is 400 years, after which the calendar repeats: 400 × 365 days and 97 leap days, 100 − 4 + 1.
+const ERA_YEARS: i64 = 400;
+
+const ERA_DAYS: i64 = 146_097;
+
+// In quarters of a day: a century has a fourth of an era's days, 36,524 and a quarter; a year of it 365 and a quarter.
+const CENTURY_QUARTERS: u64 = 146_097;
+
+const YEAR_QUARTERS: u64 = 1_461;
+
+// Day of 1970-01-01: 1,969 years, 1,969 × 365 + 492 − 19 + 4 days, and 306 days from 1 March to 1 January.
+const UNIX_EPOCH_DAY: i64 = 719_468;
+
+// Day of 1972-01-01: 730 days later, two years without a leap day.
+const UTC_EPOCH_DAY: u64 = 720_198;
+
+// Eras by which years are lifted, so that neither a year of 32 bits nor the year before it is negative.
+const LIFT_ERAS: i64 = 5_368_710;
+
+const LIFT_YEARS: i64 = LIFT_ERAS * ERA_YEARS;
+
+// A day of a lifted year less this is a Unix day. The days of a month count from 1, so it is one more than the eras' days.
+const LIFT_DAYS: i64 = LIFT_ERAS * ERA_DAYS + UNIX_EPOCH_DAY + 1;
+
+// A year that begins in March, and a day of it from 0 on.
+struct YearDay {
+    year: u64,
+    day: u64,
+}
+
+// A year counted from so many eras before year 0.
+fn lifted(year: i32) -> u64
+    ensures { λ r. ⌜ Lifted year r ⌝ }
+{
+    (year as i64 + LIFT_YEARS) as u64
+}
+
+// A day counted from there on, from 1, as a Unix day.
+fn lowered(day: u64) -> i64
+    requires { ⌜ day < 2 ^ 62 ⌝ }
+    ensures { λ r. ⌜ r ≡ subℕ day (146097 * liftEras + 719469) ⌝ }
+{
+    day as i64 - LIFT_DAYS
+}
+
+// Days before a year: the quarters of its years, less a day in each hundred, and one more in each four hundred.
+fn days_before_year(year: u64) -> u64
+    requires { ⌜ year < 2 ^ 33 ⌝ }
+    ensures { λ r. ⌜ r ≡ daysInYears year ⌝ }
+{
+    let century = year / 100;
+    year * YEAR_QUARTERS / 4 - century + century / 4
+}
+
+// Days before a month: from March on, five months have 31, 30, 31, 30 and 31 days, 153, and then again.
+fn days_before_month(month: u64) -> u64
+    requires { ⌜ month < 2 ^ 9 ⌝ }
+    ensures { λ r. ⌜ r ≡ monthStart month ⌝ }
+{
+    (153 * month + 2) / 5
+}
+
+// The Unix day of a date, by civil.rs's formula, whatever its fields.
+pub fn days_of_date(date: CivilDate) -> i64
+    ensures { λ r. ⌜ r ≡ dayOf (dateIn date) ⌝ }
+{
+    let year = lifted(date.year);
+    let month = date.month as u64;
+    let day = date.day as u64;
+    if month <= 2 {
+        lowered(days_before_year(year - 1) + days_before_month(month + 9) + day)
+    } else {
+        lowered(days_before_year(year) + days_before_month(month - 3) + day)
+    }
+}
+
+// The year that holds a day. Centuries, and years of a century, begin after whole quarters, rounded down to days; so the
+// last quarter of a day is in the century and the year that hold the day.
+fn year_holding(day: u64) -> YearDay
+    requires { ⌜ day < 2 ^ 33 ⌝ }
+    ensures { λ r. ⌜ InYear day (r .year) (r .day) ⌝ }
+{
+    let quarter = 4 * day + 3;
+    let century = quarter / CENTURY_QUARTERS;
+    let of_century = 4 * (quarter % CENTURY_QUARTERS / 4) + 3;
+    YearDay {
+        year: 100 * century + of_century / YEAR_QUARTERS,
+        day: of_century % YEAR_QUARTERS / 4,
+    }
+}
+
+// The month that holds a day of a year: the day's share of 153 days in five months.
+fn month_holding(day: u64) -> u64
+    requires { ⌜ day < 366 ⌝ }
+    ensures { λ r. ⌜ InMonth day r ⌝ }
+{
+    (5 * day + 2) / 153
+}
+
+// A date of small numbers.
+fn date_of(year: u64, month: u64, day: u64) -> CivilDate
+    requires { ⌜ (year < 2 ^ 31) × ((month < 2 ^ 8) × (day < 2 ^ 8)) ⌝ }
+    ensures { λ r. ⌜ dateIn r ≡ on (pos year) month day ⌝ }
+{
+    CivilDate {
+        year: year as i32,
+        month: month as u8,
+        day: day as u8,
+    }
+}
+
+// The date of a day from 1972-01-01 on, day 0.
+pub fn date_of_utc_day(day: u32) -> CivilDate
+    ensures { λ r. ⌜ dateIn r ≡ dateOf (pos (day + utcEpochDay)) ⌝ }
+{
+    let held = year_holding(day as u64 + UTC_EPOCH_DAY);
+    let month = month_holding(held.day);
+    let of_month = held.day - days_before_month(month) + 1;
+    if month < 10 {
+        date_of(held.year, month + 3, of_month)
+    } else {
+        date_of(held.year + 1, month - 9, of_month)
+    }
+}

@@ -1,0 +1,121 @@
+// Civil dates and times of day in UTC, and their counts: civil.rs. No field is checked on the way to a count; a real
+// date follows the calendar, any other the formula, and a time of day only its sum.
+ghost use mathlib.Core.Path.{_≡_};
+ghost use lib.IntN.{pos, _-ℤ_};
+ghost use lib.Dec.{eqb};
+ghost use Rattle.counts.specs.Answers.{countIn};
+ghost use Rattle.scales.specs.Answers.{utcIn};
+ghost use Rattle.calendar.specs.Dates.{utcEpochDay};
+ghost use Rattle.civil.specs.Fields.{fieldsIn, fieldsOf, timeOf, onDay, countAt};
+use calendar::CivilDate;
+use calendar::engine;
+use counts::CountAnswer;
+use counts::Duration;
+use counts::sums;
+use counts::sums::Step;
+use counts::units::NANOS_PER_SECOND;
+use refusals::Refusal;
+use scales::utc::Utc;
+use scales::utc::UtcAnswer;
+
+const SECONDS_PER_DAY: u64 = 86_400;
+const SECONDS_PER_HOUR: u64 = 3_600;
+const SECONDS_PER_MINUTE: u64 = 60;
+const NANOS_PER_DAY: u64 = SECONDS_PER_DAY * NANOS_PER_SECOND;
+
+// The Unix day of 1972-01-01: two years without a leap day.
+const UTC_EPOCH_DAY: u64 = 730;
+
+// The last day that a count reaches: 2^64 / NANOS_PER_DAY is 213,503.98.
+const LAST_DAY: u64 = 213_503;
+
+// A date and a time of day, with any fields.
+pub struct CivilDateTime {
+    pub year: i32,
+    pub month: u8,
+    pub day: u8,
+    pub hour: u8,
+    pub minute: u8,
+    pub second: u8,
+    pub nanos: u32,
+}
+
+// The count of a time on a Unix day.
+fn count_on_day(unix_day: i64, time: u64) -> CountAnswer
+    ensures { λ r. ⌜ countIn r ≡ onDay («unix_day» -ℤ pos utcEpochDay) time ⌝ }
+{
+    match sums::by_sign(Duration(unix_day)) {
+        Step::Forward(day) => {
+            if day < UTC_EPOCH_DAY {
+                CountAnswer::Refused(Refusal::Overflow)
+            } else if day > UTC_EPOCH_DAY + LAST_DAY {
+                CountAnswer::Refused(Refusal::Overflow)
+            } else {
+                sums::plus((day - UTC_EPOCH_DAY) * NANOS_PER_DAY, time)
+            }
+        }
+        Step::Back(_) => CountAnswer::Refused(Refusal::Overflow),
+    }
+}
+
+impl CivilDateTime {
+    // The fields of a count.
+    pub fn from_utc_nanos(count: u64) -> CivilDateTime
+        ensures { λ r. ⌜ fieldsIn r ≡ fieldsOf count ⌝ }
+    {
+        let seconds = count / NANOS_PER_SECOND;
+        let date = engine::date_of_utc_day((seconds / SECONDS_PER_DAY) as u32);
+        CivilDateTime {
+            year: date.year,
+            month: date.month,
+            day: date.day,
+            hour: (seconds % SECONDS_PER_DAY / SECONDS_PER_HOUR) as u8,
+            minute: (seconds % SECONDS_PER_HOUR / SECONDS_PER_MINUTE) as u8,
+            second: (seconds % SECONDS_PER_MINUTE) as u8,
+            nanos: (count % NANOS_PER_SECOND) as u32,
+        }
+    }
+
+    // The nanoseconds of the time of day.
+    fn time_of_day(self) -> u64
+        ensures { λ r. ⌜ r ≡ timeOf (fieldsIn self) ⌝ }
+    {
+        let hour = self.hour as u64;
+        let minute = self.minute as u64;
+        let second = self.second as u64;
+        (hour * SECONDS_PER_HOUR + minute * SECONDS_PER_MINUTE + second) * NANOS_PER_SECOND + self.nanos as u64
+    }
+
+    // The count of the fields: refused before 1972-01-01, and where it does not fit.
+    pub fn to_utc_nanos(self) -> CountAnswer
+        ensures { λ r. ⌜ countIn r ≡ countAt (fieldsIn self) ⌝ }
+    {
+        let date = CivilDate {
+            year: self.year,
+            month: self.month,
+            day: self.day,
+        };
+        count_on_day(engine::days_of_date(date), self.time_of_day())
+    }
+
+    // The same as a count of its scale.
+    pub fn to_utc(self) -> UtcAnswer
+        ensures { λ r. ⌜ utcIn r ≡ countAt (fieldsIn self) ⌝ }
+    {
+        UtcAnswer::of(self.to_utc_nanos())
+    }
+
+    // Whether there is no part of a second.
+    pub fn is_whole_second(self) -> bool
+        ensures { λ r. ⌜ r ≡ eqb (self .nanos) 0 ⌝ }
+    {
+        self.nanos == 0
+    }
+}
+
+// The fields of a UTC count.
+pub fn to_civil(utc: Utc) -> CivilDateTime
+    ensures { λ r. ⌜ fieldsIn r ≡ fieldsOf (utc .0) ⌝ }
+{
+    CivilDateTime::from_utc_nanos(utc.0)
+}
