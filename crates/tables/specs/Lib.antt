@@ -1,0 +1,4 @@
+pub mod Entries
+pub mod Slots
+pub mod Search
+pub mod Answers
