@@ -7,7 +7,7 @@ use lib.ListN.{length, getD, set, take}
 use lib.Seq.{length-take-le, take-suc, take-suc-set, getD-take, take-all}
 use lib.IntN.{ℤ, pos}
 use Rattle.tables.specs.Entries.{Entry, threshold, offset, entry}
-use Rattle.tables.specs.Slots.{paired, slots}
+use Rattle.tables.specs.Slots.{paired, slotAt, slots}
 
 pub room : (n : ℕ) (xs : List ℕ) (zs : List ℤ) → n ≤ length xs → n ≤ length zs → n ≤ length (paired xs zs)
 unfolding paired
@@ -24,7 +24,7 @@ no-longer (x ∷ xs) [] = omega arith
 no-longer (x ∷ xs) (z ∷ zs) = let h = no-longer xs zs in omega (arith, h)
 
 pub held : (k : ℕ) (xs : List ℕ) (zs : List ℤ) (d : Entry) → k < length xs → k < length zs
-    → getD (paired xs zs) k d ≡ entry (getD xs k 0) (getD zs k (pos 0))
+    → getD (paired xs zs) k d ≡ slotAt xs zs k
 unfolding paired
 held zero (x ∷ xs) (z ∷ zs) d h l = refl
 held (suc k) (x ∷ xs) (z ∷ zs) d h l = held k xs zs d (omega arith) (omega arith)
@@ -50,11 +50,11 @@ module _ (xs : List ℕ) (zs : List ℤ) where
   slots-length n h k = length-take-le n (paired xs zs) (room n xs zs h k)
 
   pub slot-is : (n k : ℕ) (d : Entry) → k < n → n ≤ length xs → n ≤ length zs
-      → getD (slots xs zs n) k d ≡ entry (getD xs k 0) (getD zs k (pos 0))
+      → getD (slots xs zs n) k d ≡ slotAt xs zs k
   slot-is n k d l h h′ = getD-take n (paired xs zs) k d l ∙ held k xs zs d (omega arith) (omega arith)
 
   pub one-more : (n : ℕ) → n < length xs → n < length zs
-      → slots xs zs (suc n) ≡ slots xs zs n ++ entry (getD xs n 0) (getD zs n (pos 0)) ∷ []
+      → slots xs zs (suc n) ≡ slots xs zs n ++ slotAt xs zs n ∷ []
   one-more n h k =
       take-suc (paired xs zs) n (entry 0 (pos 0)) (room (suc n) xs zs (omega arith) (omega arith))
       ∙ ap (λ (e : Entry). slots xs zs n ++ e ∷ []) (held n xs zs (entry 0 (pos 0)) h k)

@@ -18,6 +18,10 @@ pub both : (a b : Bool) → (a && b) ≡ true → (a ≡ true) × (b ≡ true)
 both true b h = (refl, h)
 both false b h = (h, cc)
 
+and-false : (a : Bool) {b : Bool} → b ≡ false → (a && b) ≡ false
+and-false true h = h
+and-false false h = refl
+
 -- a number that is 0 or itself
 zero-or : (k : ℕ) → cond (eqb k 0) 0 k ≡ k
 zero-or zero = refl
@@ -89,23 +93,35 @@ step-follows p e f = by-order (decLt (threshold p) (threshold e))
         let h : threshold e ≤ threshold p = omega (arith, l) in
         simp (le-leb (threshold e) (threshold p) h, le-ltb (threshold p) (threshold e) h)
 
--- a list is valid exactly if no entry is refused, among 32-bit offsets
-pub valid-is : (es : List Entry) (d : Entry) → ((k : ℕ) → k < length es → SFits w32 (offset (getD es k d))) → eqb (firstRefusal es) 0 ≡ valid es
-unfolding firstRefusal neighbours
-valid-is [] d f = refl
-valid-is (p ∷ []) d f = refl
-valid-is (p ∷ e ∷ es) d f =
-    go (ℕ-discrete (stepRefusal p e) 0) (valid-is (e ∷ es) d (λ k l. f (suc k) (omega arith)))
+-- a step that is refused by nothing follows
+zero-follows : (p e : Entry) → stepRefusal p e ≡ 0 → follows p e ≡ true
+zero-follows p e z = by-order (decLt (threshold p) (threshold e))
   where
-    first : eqb (stepRefusal p e) 0 ≡ follows p e
-    first = step-follows p e (f 1 (omega arith))
-    go : Dec (stepRefusal p e ≡ 0) → eqb (firstRefusal (e ∷ es)) 0 ≡ valid (e ∷ es) → eqb (firstRefusal (p ∷ e ∷ es)) 0 ≡ valid (p ∷ e ∷ es)
-    go (yes h) rest =
-        ap (λ (k : ℕ). eqb k 0) (passes p e es h) ∙ rest
-        ∙ ap (λ (b : Bool). b && valid (e ∷ es)) (sym (eq-eqb _ 0 h) ∙ first)
-    go (no h) rest =
-        ap (λ (k : ℕ). eqb k 0) (stops p e es h) ∙ ne-eqb _ 0 h
-        ∙ ap (λ (b : Bool). b && valid (e ∷ es)) (sym (ne-eqb _ 0 h) ∙ first)
+    clash : (k : ℕ) → 0 < k → k ≡ 0 → ⊥
+    clash k h e = omega arith
+    by-more : Dec (offset p ≡ pos 2_147_483_647) → Dec (offset e ≡ offset p +ℤ pos 1) → threshold p < threshold e → follows p e ≡ true
+    by-more (yes m) d l = absurd (clash 7 (omega arith) (sym (simp (lt-leb (threshold e) (threshold p) l, equal-yes _ _ m)) ∙ z))
+    by-more (no m) (yes q) l = simp (lt-ltb (threshold p) (threshold e) l, equal-yes _ _ q)
+    by-more (no m) (no q) l =
+        absurd (clash 4 (omega arith) (sym (simp (lt-leb (threshold e) (threshold p) l, equal-no _ _ m, equal-no _ _ q)) ∙ z))
+    by-order : Dec (threshold p < threshold e) → follows p e ≡ true
+    by-order (yes l) = by-more (ℤ-discrete (offset p) (pos 2_147_483_647)) (ℤ-discrete (offset e) (offset p +ℤ pos 1)) l
+    by-order (no l) = absurd (clash 3 (omega arith) (sym (simp (le-leb (threshold e) (threshold p) (omega (arith, l)))) ∙ z))
+
+-- a list of which no entry is refused is valid
+pub passes-valid : (es : List Entry) → firstRefusal es ≡ 0 → valid es ≡ true
+unfolding neighbours
+passes-valid [] z = refl
+passes-valid (p ∷ []) z = refl
+passes-valid (p ∷ e ∷ es) z =
+    rw (zero-follows p e (first-zero p e es z)) (passes-valid (e ∷ es) (rest-zero p e es z))
+
+-- a list in which an entry does not follow the one before it is not
+pub not-valid : (before : List Entry) (p e : Entry) (behind : List Entry) → follows p e ≡ false → valid (before ++ p ∷ e ∷ behind) ≡ false
+unfolding neighbours
+not-valid [] p e behind n = rw n
+not-valid (x ∷ []) p e behind n = and-false (follows x p) (not-valid [] p e behind n)
+not-valid (x ∷ y ∷ before) p e behind n = and-false (follows x y) (not-valid (y ∷ before) p e behind n)
 
 -- the test of neighbours, turned into the fact at each place
 pub at-each : (test : Entry → Entry → Bool) (es : List Entry) (d : Entry) → neighbours test es ≡ true

@@ -3,7 +3,7 @@ use mathlib.Core.Bool.{Bool, cond, _&&_}
 use mathlib.Core.List.{List, [], _∷_, _++_, map}
 use Prim.Native.Nat.{ℕ, _+_, _-_}
 use lib.Dec.{leb}
-use lib.ListN.{length, take, set, replicate}
+use lib.ListN.{length, getD, take, set, replicate}
 use lib.IntN.{ℤ, pos}
 use Rattle.refusals.specs.Outcome.{Outcome, answered, refused}
 use Rattle.tables.specs.declared.LeapEntry.{LeapEntry}
@@ -15,6 +15,10 @@ unfoldable pub paired : List ℕ → List ℤ → List Entry
 paired [] zs = []
 paired (x ∷ xs) [] = []
 paired (x ∷ xs) (z ∷ zs) = entry x z ∷ paired xs zs
+
+-- the entry in slot i
+abbrev pub slotAt : List ℕ → List ℤ → ℕ → Entry
+slotAt xs zs i = entry (getD xs i 0) (getD zs i (pos 0))
 
 -- the first n slots
 abbrev pub slots : List ℕ → List ℤ → ℕ → List Entry

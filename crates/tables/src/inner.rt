@@ -2,10 +2,10 @@
 ghost use mathlib.Core.Path.{_≡_};
 ghost use mathlib.Core.Bool.{true};
 ghost use Prim.Native.Nat.{ℕ, _+_, _≤_, _<_, min};
-ghost use lib.ListN.{getD, length};
-ghost use lib.IntN.{pos};
-ghost use Rattle.tables.specs.Entries.{entry, stepRefusal, firstRefusal, joinRefusal, offsetAt, valid};
-ghost use Rattle.tables.specs.Slots.{slots, validSlots, joinedTo, tableOf};
+ghost use lib.Dec.{eqb};
+ghost use lib.ListN.{length};
+ghost use Rattle.tables.specs.Entries.{stepRefusal, firstRefusal, joinRefusal, offsetAt, valid};
+ghost use Rattle.tables.specs.Slots.{slotAt, slots, validSlots, joinedTo, tableOf};
 ghost use Rattle.tables.specs.Search.{Rises, Passed};
 ghost use Rattle.tables.specs.Answers.{takenIn};
 
@@ -22,7 +22,7 @@ pub const OFFSET_OF_NO_ENTRY: i32 = 19;
 pub fn slot<'a>(thresholds: &'a [u64], offsets: &'a [i32], i: usize) -> LeapEntry
     requires { ⌜ i < length (now thresholds) ⌝ }
     requires { ⌜ i < length (now offsets) ⌝ }
-    ensures { λ r. ⌜ r ≡ entry (getD (now (thresholds .entry)) i 0) (getD (now (offsets .entry)) i (pos 0)) ⌝ }
+    ensures { λ r. ⌜ r ≡ slotAt (now (thresholds .entry)) (now (offsets .entry)) i ⌝ }
 {
     LeapEntry {
         tai_nanos: thresholds[i],
@@ -50,11 +50,12 @@ pub fn step(before: LeapEntry, next: LeapEntry) -> Taken
     }
 }
 
-// The first refusal of an entry by the one before it.
+// The first refusal of an entry by the one before it. There is none exactly if the entries are valid.
 pub fn first_refusal<'a>(thresholds: &'a [u64], offsets: &'a [i32], n: usize) -> Taken
     requires { ⌜ n ≤ length (now thresholds) ⌝ }
     requires { ⌜ n ≤ length (now offsets) ⌝ }
-    ensures { λ r. ⌜ takenIn r ≡ firstRefusal (slots (now (thresholds .entry)) (now (offsets .entry)) n) ⌝ }
+    ensures first { λ r. ⌜ takenIn r ≡ firstRefusal (slots (now (thresholds .entry)) (now (offsets .entry)) n) ⌝ }
+    ensures tells { λ r. ⌜ eqb (takenIn r) 0 ≡ valid (slots (now (thresholds .entry)) (now (offsets .entry)) n) ⌝ }
 {
     let mut i: usize = 1;
     while i < n {
