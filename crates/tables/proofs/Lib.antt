@@ -4,3 +4,6 @@ pub mod Neighbours
 pub mod Scanned
 pub mod RefusalNumbers
 pub mod InForce
+pub mod Halving
+pub mod Filled
+pub mod Joining

@@ -120,14 +120,15 @@ pub fn offset_at<'a>(thresholds: &'a [u64], offsets: &'a [i32], n: usize, tai: u
 }
 
 // Whether an entry can be joined to the first n.
-pub fn joins<'a>(thresholds: &'a [u64; 64], offsets: &'a [i32; 64], n: usize, entry: LeapEntry) -> Taken
-    requires { ⌜ n ≤ 64 ⌝ }
+pub fn joins<'a>(thresholds: &'a [u64], offsets: &'a [i32], n: usize, entry: LeapEntry) -> Taken
+    requires { ⌜ n ≤ length (now thresholds) ⌝ }
+    requires { ⌜ n ≤ length (now offsets) ⌝ }
     ensures { λ r. ⌜ takenIn r ≡ joinRefusal (slots (now (thresholds .entry)) (now (offsets .entry)) n) entry ⌝ }
 {
     if n == 0 {
         return Taken::Done;
     }
-    if n == 64 {
+    if 64 <= n {
         return Taken::Refused(Refusal::BufferFull);
     }
     step(slot(thresholds, offsets, n - 1), entry)
