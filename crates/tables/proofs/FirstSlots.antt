@@ -3,7 +3,8 @@ use mathlib.Core.Path.{_≡_, refl, sym, ap, _∙_}
 use mathlib.Core.List.{List, [], _∷_, _++_, map}
 use Prim.Native.Nat.{ℕ, zero, suc, _+_, _-_, _≤_, _<_, min}
 use native.Mathlib.Omega.{arith}
-use lib.ListN.{length, getD, set, take}
+use mathlib.Core.Option.{some, none}
+use lib.ListN.{length, getD, getElem?, set, take}
 use lib.Seq.{length-take-le, take-suc, take-suc-set, getD-take, take-all}
 use lib.IntN.{ℤ, pos}
 use Rattle.tables.specs.Entries.{Entry, threshold, offset, entry}
@@ -45,6 +46,22 @@ stored (suc n) (y ∷ xs) [] x z = refl
 stored zero (y ∷ xs) (w ∷ zs) x z = refl
 stored (suc n) (y ∷ xs) (w ∷ zs) x z = ap (λ (es : List Entry). entry y w ∷ es) (stored n xs zs x z)
 
+some-at : (es : List Entry) (k : ℕ) (d : Entry) → k < length es → getElem? es k ≡ some (getD es k d)
+some-at [] k d l = absurd (none l)
+  where
+    none : {k : ℕ} → k < 0 → ⊥
+    none l = omega arith
+some-at (e ∷ es) zero d l = refl
+some-at (e ∷ es) (suc k) d l = some-at es k d (omega arith)
+
+none-at : (es : List Entry) (k : ℕ) → length es ≤ k → getElem? es k ≡ none
+none-at [] k l = refl
+none-at (e ∷ es) zero l = absurd (past l)
+  where
+    past : suc (length es) ≤ 0 → ⊥
+    past l = omega arith
+none-at (e ∷ es) (suc k) l = none-at es k (omega arith)
+
 module _ (xs : List ℕ) (zs : List ℤ) where
   pub slots-length : (n : ℕ) → n ≤ length xs → n ≤ length zs → length (slots xs zs n) ≡ n
   slots-length n h k = length-take-le n (paired xs zs) (room n xs zs h k)
@@ -68,3 +85,12 @@ module _ (xs : List ℕ) (zs : List ℤ) where
 
   pub whole : slots xs zs (min (length xs) (length zs)) ≡ paired xs zs
   whole = take-all (min (length xs) (length zs)) (paired xs zs) (let l = no-longer xs zs in omega (arith, l))
+
+module _ (xs : List ℕ) (zs : List ℤ) (n : ℕ) (h : n ≤ length xs) (h′ : n ≤ length zs) (k : ℕ) where
+  pub there : k < n → getElem? (slots xs zs n) k ≡ some (slotAt xs zs k)
+  there l =
+      let s = slots-length xs zs n h h′ in
+      some-at (slots xs zs n) k (entry 0 (pos 0)) (omega arith) ∙ ap some (slot-is xs zs n k (entry 0 (pos 0)) l h h′)
+
+  pub past : n ≤ k → getElem? (slots xs zs n) k ≡ none
+  past l = none-at (slots xs zs n) k (let s = slots-length xs zs n h h′ in omega arith)

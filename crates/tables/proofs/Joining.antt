@@ -28,6 +28,10 @@ pub empty-takes : (e : Entry) → joinRefusal [] e ≡ 0
 unfolding joinRefusal
 empty-takes e = refl
 
+pub none-current : currentOffset [] ≡ pos 19
+unfolding currentOffset
+none-current = refl
+
 module _ (k : ℕ) (d : Entry) where
   never : length {A = Entry} [] ≡ suc k → ⊥
   never h = omega arith

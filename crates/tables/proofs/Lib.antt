@@ -7,3 +7,4 @@ pub mod InForce
 pub mod Halving
 pub mod Filled
 pub mod Joining
+pub mod Checked
