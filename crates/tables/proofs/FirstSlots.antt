@@ -86,6 +86,9 @@ module _ (xs : List ℕ) (zs : List ℤ) where
   pub whole : slots xs zs (min (length xs) (length zs)) ≡ paired xs zs
   whole = take-all (min (length xs) (length zs)) (paired xs zs) (let l = no-longer xs zs in omega (arith, l))
 
+  pub paired-length : length (paired xs zs) ≡ min (length xs) (length zs)
+  paired-length = ap length (sym whole) ∙ slots-length (min (length xs) (length zs)) (omega arith) (omega arith)
+
 module _ (xs : List ℕ) (zs : List ℤ) (n : ℕ) (h : n ≤ length xs) (h′ : n ≤ length zs) (k : ℕ) where
   pub there : k < n → getElem? (slots xs zs n) k ≡ some (slotAt xs zs k)
   there l =

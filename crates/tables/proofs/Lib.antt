@@ -8,3 +8,4 @@ pub mod Halving
 pub mod Filled
 pub mod Joining
 pub mod Checked
+pub mod Growing
