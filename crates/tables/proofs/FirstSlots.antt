@@ -46,7 +46,7 @@ stored (suc n) (y ∷ xs) [] x z = refl
 stored zero (y ∷ xs) (w ∷ zs) x z = refl
 stored (suc n) (y ∷ xs) (w ∷ zs) x z = ap (λ (es : List Entry). entry y w ∷ es) (stored n xs zs x z)
 
-some-at : (es : List Entry) (k : ℕ) (d : Entry) → k < length es → getElem? es k ≡ some (getD es k d)
+pub some-at : (es : List Entry) (k : ℕ) (d : Entry) → k < length es → getElem? es k ≡ some (getD es k d)
 some-at [] k d l = absurd (none l)
   where
     none : {k : ℕ} → k < 0 → ⊥
@@ -54,7 +54,7 @@ some-at [] k d l = absurd (none l)
 some-at (e ∷ es) zero d l = refl
 some-at (e ∷ es) (suc k) d l = some-at es k d (omega arith)
 
-none-at : (es : List Entry) (k : ℕ) → length es ≤ k → getElem? es k ≡ none
+pub none-at : (es : List Entry) (k : ℕ) → length es ≤ k → getElem? es k ≡ none
 none-at [] k l = refl
 none-at (e ∷ es) zero l = absurd (past l)
   where

@@ -36,6 +36,7 @@ has-room xs zs n e h h′ z = go (decLt n 64)
   where
     five : _≡_ {A = ℕ} 0 5 → ⊥
     five e = omega arith
+
     go : Dec (n < 64) → n < 64
     go (yes l) = l
     go (no l) = absurd (five (z ∙ full-slots xs zs n h h′ e (omega (arith, l))))

@@ -19,6 +19,7 @@ module _ (xs : List ℕ) (n t : ℕ) where
     where
       none : {i : ℕ} → i < 0 → ⊥
       none l = omega arith
+
       past : {i : ℕ} → n ≤ i → i < n → ⊥
       past l l′ = omega arith
 

@@ -9,3 +9,8 @@ pub mod Filled
 pub mod Joining
 pub mod Checked
 pub mod Growing
+pub mod Tested
+pub mod Extensions
+pub mod Lookups
+pub mod Tells
+pub mod Calls

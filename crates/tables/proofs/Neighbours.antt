@@ -85,6 +85,7 @@ step-follows p e f = by-order (decLt (threshold p) (threshold e))
     by-more (yes m) (no l) = rw (equal-no _ _ l, equal-yes _ _ m)
     by-more (no m) (yes l) = rw (equal-yes _ _ l, equal-no _ _ m)
     by-more (no m) (no l) = rw (equal-no _ _ l, equal-no _ _ m)
+
     by-order : Dec (threshold p < threshold e) → eqb (stepRefusal p e) 0 ≡ follows p e
     by-order (yes l) =
         simp (lt-leb (threshold e) (threshold p) l, lt-ltb (threshold p) (threshold e) l)
@@ -94,16 +95,18 @@ step-follows p e f = by-order (decLt (threshold p) (threshold e))
         simp (le-leb (threshold e) (threshold p) h, le-ltb (threshold p) (threshold e) h)
 
 -- a step that is refused by nothing follows
-zero-follows : (p e : Entry) → stepRefusal p e ≡ 0 → follows p e ≡ true
+pub zero-follows : (p e : Entry) → stepRefusal p e ≡ 0 → follows p e ≡ true
 zero-follows p e z = by-order (decLt (threshold p) (threshold e))
   where
     clash : (k : ℕ) → 0 < k → k ≡ 0 → ⊥
     clash k h e = omega arith
+
     by-more : Dec (offset p ≡ pos 2_147_483_647) → Dec (offset e ≡ offset p +ℤ pos 1) → threshold p < threshold e → follows p e ≡ true
     by-more (yes m) d l = absurd (clash 7 (omega arith) (sym (simp (lt-leb (threshold e) (threshold p) l, equal-yes _ _ m)) ∙ z))
     by-more (no m) (yes q) l = simp (lt-ltb (threshold p) (threshold e) l, equal-yes _ _ q)
     by-more (no m) (no q) l =
         absurd (clash 4 (omega arith) (sym (simp (lt-leb (threshold e) (threshold p) l, equal-no _ _ m, equal-no _ _ q)) ∙ z))
+
     by-order : Dec (threshold p < threshold e) → follows p e ≡ true
     by-order (yes l) = by-more (ℤ-discrete (offset p) (pos 2_147_483_647)) (ℤ-discrete (offset e) (offset p +ℤ pos 1)) l
     by-order (no l) = absurd (clash 3 (omega arith) (sym (simp (le-leb (threshold e) (threshold p) (omega (arith, l)))) ∙ z))

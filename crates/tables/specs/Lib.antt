@@ -2,3 +2,4 @@ pub mod Entries
 pub mod Slots
 pub mod Search
 pub mod Answers
+pub mod Promises

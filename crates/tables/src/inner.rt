@@ -8,9 +8,10 @@ ghost use Rattle.tables.specs.Entries.{stepRefusal, firstRefusal, joinRe
 ghost use Rattle.tables.specs.Slots.{slotAt, slots, validSlots, joinedTo, tableOf};
 ghost use Rattle.tables.specs.Search.{Rises, Passed};
 ghost use Rattle.tables.specs.Answers.{takenIn};
-
+use crate::LeapEntry;
+use crate::LeapTable;
+use crate::Taken;
 use refusals::Refusal;
-use crate::{LeapEntry, LeapTable, Taken};
 
 // The largest offset, after which no entry can follow.
 const LARGEST_OFFSET: i32 = 2147483647;
@@ -112,11 +113,7 @@ pub fn offset_at<'a>(thresholds: &'a [u64], offsets: &'a [i32], n: usize, tai: u
         return OFFSET_OF_NO_ENTRY;
     }
     let k = passed(thresholds, n, tai);
-    if k == 0 {
-        offsets[0]
-    } else {
-        offsets[k - 1]
-    }
+    if k == 0 { offsets[0] } else { offsets[k - 1] }
 }
 
 // Whether an entry can be joined to the first n.

@@ -7,10 +7,17 @@ ghost use Rattle.refusals.specs.Outcome.{answered};
 ghost use Rattle.tables.specs.Entries.{offsetAt, currentOffset, lastUpdate};
 ghost use Rattle.tables.specs.Slots.{paired, entriesOf, ofValid, tableOf, extended, built};
 ghost use Rattle.tables.specs.Answers.{extensionIn, lengthIn, emptyIn, entryIn, updateIn, offsetIn};
-
-use refusals::Refusal;
-use crate::{EmptyAnswer, EntryAnswer, Extension, LeapEntry, LeapTable, LengthAnswer, OffsetAnswer, Taken, UpdateAnswer};
+use crate::EmptyAnswer;
+use crate::EntryAnswer;
+use crate::Extension;
+use crate::LeapEntry;
+use crate::LeapTable;
+use crate::LengthAnswer;
+use crate::OffsetAnswer;
+use crate::Taken;
+use crate::UpdateAnswer;
 use crate::inner;
+use refusals::Refusal;
 
 impl LeapTable {
     // The table with no entry.

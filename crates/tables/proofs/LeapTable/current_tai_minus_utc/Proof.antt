@@ -1,5 +1,5 @@
 -- `LeapTable::current_tai_minus_utc` answers the offset of the last entry.
-use mathlib.Core.Path.{_≡_, sym, ap, _∙_}
+use mathlib.Core.Path.{sym, ap, _∙_}
 use Prim.Native.Nat.{_-_}
 use native.Mathlib.Omega.{arith}
 use borrow.Author.Tests.{not-true, not-false}
@@ -14,41 +14,31 @@ use Rattle.tables.proofs.Checked.{Checked, checked, bad, good}
 use borrow.Author.Needs.{needs}
 use Rattle.tables.proofs.LeapTable.current_tai_minus_utc.Statement.{statement}
 use Rattle.tables.proofs.LeapTable.current_tai_minus_utc.Tie as tie
-use Rattle.tables.proofs.LeapTable.current_tai_minus_utc.Reads as reads
-use Rattle.tables.proofs.LeapTable.current_tai_minus_utc.Lts as lts
-use Rattle.tables.proofs.inner.is_valid.Reads as is-valid-reads
 
--- src/table.rt:128:13
 known : (c : tie.Else1) → Checked (c .before .before .before .before .before .args .t1)
 known c = checked _ (search needs) (search needs) (sym (c .before .is-valid .ensures) ∙ not-false _ (c .if1 .left))
 
 is-valid-requires : tie.Need-is-valid-requires
 is-valid-requires c κs = search needs
 
--- src/table.rt:129:13
 returns : tie.Need-returns
 returns c = bad (c .before .before .before .before .before .args .t1) _ (sym (c .before .is-valid .ensures) ∙ not-true _ (c .if1 .taken))
 
--- src/table.rt:134:47
 sub-t10 : tie.Need-sub-t10
 sub-t10 c = search needs
 
--- src/table.rt:134:34
 mul-t11 : tie.Need-mul-t11
 mul-t11 c = omega (arith, known (c .before) .few)
 
--- src/table.rt:134:34
 element-copy-out-t14 : tie.Need-element-copy-out-t14
 element-copy-out-t14 c = omega (arith, known (c .before) .few)
 
--- src/table.rt:124:5
 returns-2 : tie.Need-returns-2
 returns-2 c =
     let t = c .before .before .before .before .before .before .args .t1 in
     let k = known (c .before) in
     ap answered (rw (c .if2 .taken) (sym none-current)) ∙ good t _ (k .passes)
 
--- src/table.rt:124:5
 returns-3 : tie.Need-returns-3
 returns-3 c =
     let e = c .before .before in

@@ -1,5 +1,5 @@
 -- `LeapTable::entry_at` answers the entry at a place, and nothing past the last one.
-use mathlib.Core.Path.{_≡_, sym, ap, _∙_}
+use mathlib.Core.Path.{sym, ap, _∙_}
 use mathlib.Core.Option.{some}
 use native.Mathlib.Omega.{arith}
 use borrow.Author.Tests.{not-true, not-false}
@@ -9,29 +9,21 @@ use Rattle.tables.proofs.Checked.{Checked, checked, bad, good}
 use borrow.Author.Needs.{needs}
 use Rattle.tables.proofs.LeapTable.entry_at.Statement.{statement}
 use Rattle.tables.proofs.LeapTable.entry_at.Tie as tie
-use Rattle.tables.proofs.LeapTable.entry_at.Reads as reads
-use Rattle.tables.proofs.LeapTable.entry_at.Lts as lts
-use Rattle.tables.proofs.inner.is_valid.Reads as is-valid-reads
-use Rattle.tables.proofs.inner.slot.Reads as slot-reads
 
--- src/table.rt:98:13
 known : (c : tie.Else1) → Checked (c .before .before .before .before .before .args .t1)
 known c = checked _ (search needs) (search needs) (sym (c .before .is-valid .ensures) ∙ not-false _ (c .if1 .left))
 
 is-valid-requires : tie.Need-is-valid-requires
 is-valid-requires c κs = search needs
 
--- src/table.rt:99:13
 returns : tie.Need-returns
 returns c = bad (c .before .before .before .before .before .args .t1) _ (sym (c .before .is-valid .ensures) ∙ not-true _ (c .if1 .taken))
 
--- src/table.rt:102:32
 slot-requires : tie.Need-slot-requires
 slot-requires c κs =
     let k = known (c .before .before .before .before .before .before) in
     omega (arith, k)
 
--- src/table.rt:94:5
 returns-2 : tie.Need-returns-2
 returns-2 c =
     let e = c .before .before .before .before .before .before .before in
@@ -43,7 +35,6 @@ returns-2 c =
     ∙ sym (there (t .thresholds) (t .offsets) (t .len) (k .in-thresholds) (k .in-offsets) place (c .before .before .before .before .before .before .if2 .taken)))
     ∙ good t _ (k .passes)
 
--- src/table.rt:94:5
 returns-3 : tie.Need-returns-3
 returns-3 c =
     let t = c .before .before .before .before .before .before .args .t1 in

@@ -1,7 +1,6 @@
 -- `LeapTable::from_lists` gives the answer and the table of a building, by the first refusal.
 use mathlib.Core.Path.{_≡_, sym, ap, _∙_}
 use mathlib.Core.List.{[]}
-use Prim.Native.Nat.{ℕ}
 use native.Mathlib.Omega.{arith}
 use denote.Ref.{now}
 use lib.ListN.{length}
@@ -19,18 +18,10 @@ use Rattle.tables.proofs.Growing.{none-built, too-many, entry-refused, 
 use borrow.Author.Needs.{needs}
 use Rattle.tables.proofs.LeapTable.from_lists.Statement.{statement}
 use Rattle.tables.proofs.LeapTable.from_lists.Tie as tie
-use Rattle.tables.proofs.LeapTable.from_lists.Reads as reads
-use Rattle.tables.proofs.LeapTable.from_lists.Lts as lts
-use Rattle.tables.proofs.inner.first_refusal.Reads as first-refusal-reads
-use Rattle.tables.proofs.inner.shorter.Reads as shorter-reads
-use Rattle.tables.proofs.inner.table_of.Reads as table-of-reads
-use Rattle.tables.proofs.table.unbuilt.Reads as unbuilt-reads
 
--- src/table.rt:31:13
 shorter-requires : tie.Need-shorter-requires
 shorter-requires c κs = search needs
 
--- src/table.rt:33:13
 -- the slots up to the shorter length are all that are given
 all : (c : tie.After-shorter)
     → slots (now (c .before .before .args .thresholds)) (now (c .before .before .args .offsets)) (c .shorter .result)
@@ -48,45 +39,36 @@ refused r k h = rw (h .0, h .1)
 unbuilt-requires : tie.Need-unbuilt-requires
 unbuilt-requires c κs = search needs
 
--- src/table.rt:33:13
 returns : tie.Need-returns
 returns c =
     let z = sized (c .before .before) in
     let a = c .before .before .before .before .args in
     refused _ _ (c .unbuilt .ensures) ∙ none-built (paired (now (a .thresholds)) (now (a .offsets))) (omega (arith, z, c .before .if1 .taken))
 
--- src/table.rt:36:13
 unbuilt-requires-2 : tie.Need-unbuilt-requires-2
 unbuilt-requires-2 c κs = search needs
 
--- src/table.rt:36:13
 returns-2 : tie.Need-returns-2
 returns-2 c =
     let z = sized (c .before .before .before) in
     let a = c .before .before .before .before .before .args in
     refused _ _ (c .unbuilt2 .ensures) ∙ too-many (paired (now (a .thresholds)) (now (a .offsets))) (omega (arith, z, c .before .if2 .taken))
 
--- src/table.rt:38:15
 first-refusal-requires : tie.Need-first-refusal-requires
 first-refusal-requires c κs = search needs
 
--- src/table.rt:39:28
 enum-known-why : tie.Need-enum-known-why
 enum-known-why c = search needs
 
--- src/table.rt:39:36
 unbuilt-requires-3 : tie.Need-unbuilt-requires-3
 unbuilt-requires-3 c κs = search needs
 
--- src/table.rt:41:25
 enum-told : tie.Need-enum-told
 enum-told c = search needs
 
--- src/table.rt:42:24
 table-of-requires : tie.Need-table-of-requires
 table-of-requires c κs = search needs
 
--- src/table.rt:28:5
 returns-3 : tie.Need-returns-3
 returns-3 c =
     let f = c .before .before .before .before in
@@ -98,7 +80,6 @@ returns-3 c =
     (number-not-zero k)
     (sym (ap takenIn (c .before .before .why .given .1)) ∙ f .first-refusal .ensures .0 ∙ ap firstRefusal (all (f .before .before .before)))
 
--- src/table.rt:28:5
 returns-4 : tie.Need-returns-4
 returns-4 c =
     let f = c .before .before .before in

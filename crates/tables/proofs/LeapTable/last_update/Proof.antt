@@ -1,5 +1,5 @@
 -- `LeapTable::last_update` answers the last threshold where there is more than the first entry.
-use mathlib.Core.Path.{_≡_, sym, ap, _∙_}
+use mathlib.Core.Path.{sym, ap, _∙_}
 use native.Mathlib.Omega.{arith}
 use borrow.Author.Tests.{not-true, not-false}
 use Rattle.refusals.specs.Outcome.{answered}
@@ -8,34 +8,25 @@ use Rattle.tables.proofs.Checked.{Checked, checked, bad, good}
 use borrow.Author.Needs.{needs}
 use Rattle.tables.proofs.LeapTable.last_update.Statement.{statement}
 use Rattle.tables.proofs.LeapTable.last_update.Tie as tie
-use Rattle.tables.proofs.LeapTable.last_update.Reads as reads
-use Rattle.tables.proofs.LeapTable.last_update.Lts as lts
-use Rattle.tables.proofs.inner.is_valid.Reads as is-valid-reads
 
--- src/table.rt:113:13
 known : (c : tie.Else1) → Checked (c .before .before .before .before .before .args .t1)
 known c = checked _ (search needs) (search needs) (sym (c .before .is-valid .ensures) ∙ not-false _ (c .if1 .left))
 
 is-valid-requires : tie.Need-is-valid-requires
 is-valid-requires c κs = search needs
 
--- src/table.rt:114:13
 returns : tie.Need-returns
 returns c = bad (c .before .before .before .before .before .args .t1) _ (sym (c .before .is-valid .ensures) ∙ not-true _ (c .if1 .taken))
 
--- src/table.rt:117:46
 sub-t10 : tie.Need-sub-t10
 sub-t10 c = search needs
 
--- src/table.rt:117:30
 mul-t11 : tie.Need-mul-t11
 mul-t11 c = omega (arith, known (c .before) .few)
 
--- src/table.rt:117:30
 element-copy-out-t14 : tie.Need-element-copy-out-t14
 element-copy-out-t14 c = omega (arith, known (c .before) .few)
 
--- src/table.rt:109:5
 returns-2 : tie.Need-returns-2
 returns-2 c =
     let e = c .before .before in
@@ -44,7 +35,6 @@ returns-2 c =
     ap answered (sym (update-slot (t .thresholds) (t .offsets) (t .len) (k .in-thresholds) (k .in-offsets) (c .before .if2 .taken)))
     ∙ good t _ (k .passes)
 
--- src/table.rt:109:5
 returns-3 : tie.Need-returns-3
 returns-3 c =
     let t = c .before .before .before .before .before .before .args .t1 in

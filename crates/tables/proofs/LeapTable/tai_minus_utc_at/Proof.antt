@@ -1,5 +1,5 @@
 -- `LeapTable::tai_minus_utc_at` answers the offset in force.
-use mathlib.Core.Path.{_≡_, sym, ap, _∙_}
+use mathlib.Core.Path.{sym, ap, _∙_}
 use mir.Syntax.{w32}
 use mir.Val.{SFits}
 use mir.Facts.{toZ-ofZ}
@@ -8,32 +8,24 @@ use Rattle.tables.proofs.Checked.{Checked, checked, bad, good}
 use borrow.Author.Needs.{needs}
 use Rattle.tables.proofs.LeapTable.tai_minus_utc_at.Statement.{statement}
 use Rattle.tables.proofs.LeapTable.tai_minus_utc_at.Tie as tie
-use Rattle.tables.proofs.LeapTable.tai_minus_utc_at.Reads as reads
-use Rattle.tables.proofs.LeapTable.tai_minus_utc_at.Lts as lts
-use Rattle.tables.proofs.inner.is_valid.Reads as is-valid-reads
-use Rattle.tables.proofs.inner.offset_at.Reads as offset-at-reads
 
--- src/table.rt:143:12
 known : (c : tie.Then1) → Checked (c .before .before .before .before .before .args .t1)
 known c = checked _ (search needs) (search needs) (sym (c .before .is-valid .ensures) ∙ c .if1 .taken)
 
 is-valid-requires : tie.Need-is-valid-requires
 is-valid-requires c κs = search needs
 
--- src/table.rt:144:34
 offset-at-requires : tie.Need-offset-at-requires
 offset-at-requires c κs =
     let k = known (c .before .before .before .before .before) in
     (k .in-thresholds, (k .in-offsets, k .is-valid))
 
--- src/table.rt:139:5
 returns : tie.Need-returns
 returns c =
     let e = c .before .before .before .before .before .before in
     let fits : SFits w32 (c .offset-at .result) = search needs in
     ap answered (toZ-ofZ fits ∙ c .offset-at .ensures) ∙ good (e .before .before .before .before .before .args .t1) _ (known e .passes)
 
--- src/table.rt:139:5
 returns-2 : tie.Need-returns-2
 returns-2 c = bad (c .before .before .before .before .before .args .t1) _ (sym (c .before .is-valid .ensures) ∙ c .if1 .left)
 

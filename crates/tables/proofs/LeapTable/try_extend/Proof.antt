@@ -11,40 +11,29 @@ use Rattle.tables.proofs.Checked.{Checked, checked}
 use borrow.Author.Needs.{needs}
 use Rattle.tables.proofs.LeapTable.try_extend.Statement.{statement}
 use Rattle.tables.proofs.LeapTable.try_extend.Tie as tie
-use Rattle.tables.proofs.LeapTable.try_extend.Reads as reads
-use Rattle.tables.proofs.LeapTable.try_extend.Lts as lts
-use Rattle.tables.proofs.inner.is_valid.Reads as is-valid-reads
-use Rattle.tables.proofs.inner.joined.Reads as joined-reads
-use Rattle.tables.proofs.inner.joins.Reads as joins-reads
 
--- src/table.rt:52:13
 known : (c : tie.Else1) → Checked (c .before .before .before .before .before .args .t1)
 known c = checked _ (search needs) (search needs) (sym (c .before .is-valid .ensures) ∙ not-false _ (c .if1 .left))
 
 is-valid-requires : tie.Need-is-valid-requires
 is-valid-requires c κs = search needs
 
--- src/table.rt:53:13
 returns : tie.Need-returns
 returns c =
     let a = c .before .before .before .before .before .args in
     bad-table (a .t1) (a .entry) (sym (c .before .is-valid .ensures) ∙ not-true _ (c .if1 .taken))
 
--- src/table.rt:58:15
 joins-requires : tie.Need-joins-requires
 joins-requires c κs =
     let k = known (c .before .before .before .before .before) in
     (k .in-thresholds, k .in-offsets)
 
--- src/table.rt:59:28
 enum-known-why : tie.Need-enum-known-why
 enum-known-why c = search needs
 
--- src/table.rt:64:25
 enum-told : tie.Need-enum-told
 enum-told c = search needs
 
--- src/table.rt:65:24
 taken : (c : tie.After-enum-told)
     → 0 ≡ joinRefusal (entriesOf (c .before .before .before .before .before .before .before .before .before .before .before .before .before .args .t1)) (c .before .before .before .before .before .before .before .before .before .before .before .before .before .args .entry)
 taken c = sym (ap takenIn (c .enum-told .given .1)) ∙ c .before .before .joins .ensures
@@ -56,7 +45,6 @@ joined-requires c κs =
     let k = known e in
     has-room (a .t1 .thresholds) (a .t1 .offsets) (a .t1 .len) (a .entry) (k .in-thresholds) (k .in-offsets) (taken c)
 
--- src/table.rt:48:5
 returns-2 : tie.Need-returns-2
 returns-2 c =
     let e = c .before .before .before .before .before .before .before .before .before in
@@ -64,7 +52,6 @@ returns-2 c =
     refuses (a .t1) (a .entry) (known e .passes) _ (number-not-zero (c .before .why .given .0 .0))
     (sym (ap takenIn (c .before .why .given .1)) ∙ c .before .before .before .joins .ensures)
 
--- src/table.rt:48:5
 returns-3 : tie.Need-returns-3
 returns-3 c =
     let e = c .before .before .before .before .before .before .before .before .before in

@@ -1,5 +1,6 @@
-use mathlib.Core.Path.{_≡_, refl, sym, ap, _∙_}
-use Prim.Native.Nat.{ℕ, suc, _+_, _-_, _<_, _≤_}
+-- `inner::first_refusal` finds the first refusal, and tells whether the slots are valid: the slots passed so far are refused nowhere.
+use mathlib.Core.Path.{_≡_, sym, ap, _∙_}
+use Prim.Native.Nat.{ℕ, suc, _-_, _≤_}
 use native.Mathlib.Omega.{arith}
 use native.Mathlib.Numerals.{add-one}
 use borrow.Author.Needs.{needs}
@@ -16,10 +17,6 @@ use Rattle.tables.proofs.Scanned.{one-passes, refused-early, passes-ear
 use Rattle.tables.proofs.Neighbours.{step-follows, passes-valid}
 use Rattle.tables.proofs.inner.first_refusal.Statement.{statement}
 use Rattle.tables.proofs.inner.first_refusal.Tie as tie
-use Rattle.tables.proofs.inner.first_refusal.Reads as reads
-use Rattle.tables.proofs.inner.first_refusal.Lts as lts
-use Rattle.tables.proofs.inner.slot.Reads as slot-reads
-use Rattle.tables.proofs.inner.step.Reads as step-reads
 
 abbrev Inv-loop : tie.InvT-loop
 Inv-loop thresholds offsets n i₀ i = (1 ≤ i) × (firstRefusal (slots thresholds offsets i) ≡ 0)
@@ -27,27 +24,21 @@ Inv-loop thresholds offsets n i₀ i = (1 ≤ i) × (firstRefusal (slots thresho
 abbrev μ-loop : tie.MeasureT-loop
 μ-loop thresholds offsets n i₀ i = n - i
 
--- src/inner.rt:60:5
 loop-holds : tie.Need-loop-holds Inv-loop μ-loop
 loop-holds c = (search needs, one-passes (paired (now (c .before .args .thresholds)) (now (c .before .args .offsets))))
 
--- src/inner.rt:61:48
 sub-slot : tie.Need-sub-slot Inv-loop μ-loop
 sub-slot c = search needs
 
--- src/inner.rt:61:13
 slot-requires : tie.Need-slot-requires Inv-loop μ-loop
 slot-requires c κs = search needs
 
--- src/inner.rt:62:13
 slot-requires-2 : tie.Need-slot-requires-2 Inv-loop μ-loop
 slot-requires-2 c κs = search needs
 
--- src/inner.rt:63:38
 step-requires : tie.Need-step-requires Inv-loop μ-loop
 step-requires c κs = search needs
 
--- src/inner.rt:63:31
 enum-known-why : tie.Need-enum-known-why Inv-loop μ-loop
 enum-known-why c = search needs
 
@@ -70,38 +61,34 @@ refused-invalid c {k} e nonzero =
     let fits : SFits w32 (offset (c .before .slot2 .result)) = search needs in
     let l = c .before .before .before .loop-test .taken in
     let refused : follows (c .before .before .slot .result) (c .before .slot2 .result) ≡ false =
-      sym (step-follows (c .before .before .slot .result) (c .before .slot2 .result) fits)
-      ∙ ne-eqb _ 0 (λ z. nonzero (sym e ∙ c .step .ensures ∙ z)) in
+    sym (step-follows (c .before .before .slot .result) (c .before .slot2 .result) fits)
+    ∙ ne-eqb _ 0 (λ z. nonzero (sym e ∙ c .step .ensures ∙ z)) in
     invalid-at (now (a .thresholds)) (now (a .offsets)) (at .loop .i) (a .n) (at .loop .inv .0) l (search needs) (search needs)
     (rw (c .before .slot2 .ensures, c .before .before .slot .ensures) at refused)
 
--- src/inner.rt:64:13
 returns : tie.Need-returns Inv-loop μ-loop
 returns c =
     let at = c .before .before .before .before .before .before .before in
     let a = at .before .before .args in
     let h : suc (at .loop .i) ≤ a .n = omega (arith, c .before .before .before .before .before .before .loop-test .taken) in
     let e = next (c .before .before .before) ∙ ap takenIn (c .before .why .given .1) in
-    let nonzero = number-not-zero (c .before .why .given .0 .0) in
-    (sym (refused-early (paired (now (a .thresholds)) (now (a .offsets))) (suc (at .loop .i)) (a .n) h (λ z. nonzero (sym e ∙ z)) ∙ e),
-    ne-eqb _ 0 nonzero ∙ sym (refused-invalid (c .before .before .before) (ap takenIn (c .before .why .given .1)) nonzero))
+    let nonzero = number-not-zero (c .before .why .given .0 .0) in (
+      sym (refused-early (paired (now (a .thresholds)) (now (a .offsets))) (suc (at .loop .i)) (a .n) h (λ z. nonzero (sym e ∙ z)) ∙ e),
+      ne-eqb _ 0 nonzero ∙ sym (refused-invalid (c .before .before .before) (ap takenIn (c .before .why .given .1)) nonzero),
+    )
 
 enum-told : tie.Need-enum-told Inv-loop μ-loop
 enum-told c = search needs
 
--- src/inner.rt:66:9
 add-i : tie.Need-add-i Inv-loop μ-loop
 add-i c = search needs
 
--- src/inner.rt:60:5
 loop-less : tie.Need-loop-less Inv-loop μ-loop
 loop-less c = search needs
 
--- src/inner.rt:60:5
 loop-again : tie.Need-loop-again Inv-loop μ-loop
 loop-again c = (search needs, rw add-one (next (c .before .before) ∙ ap takenIn (c .enum-told .given .1)))
 
--- src/inner.rt:54:1
 returns-2 : tie.Need-returns-2 Inv-loop μ-loop
 returns-2 c =
     let a = c .before .before .before .args in

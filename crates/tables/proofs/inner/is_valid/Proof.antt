@@ -1,5 +1,5 @@
 -- `inner::is_valid` is the test of validity: there is no first refusal exactly if the slots are valid.
-use mathlib.Core.Path.{_≡_, sym, ap, _∙_}
+use mathlib.Core.Path.{sym, ap, _∙_}
 use borrow.Author.Tests.{le-leb, lt-leb, ne-eqb}
 use lib.Dec.{eqb}
 use Rattle.tables.specs.Answers.{takenIn}
@@ -8,33 +8,24 @@ use Rattle.tables.proofs.RefusalNumbers.{number-not-zero}
 use borrow.Author.Needs.{needs}
 use Rattle.tables.proofs.inner.is_valid.Statement.{statement}
 use Rattle.tables.proofs.inner.is_valid.Tie as tie
-use Rattle.tables.proofs.inner.is_valid.Reads as reads
-use Rattle.tables.proofs.inner.is_valid.Lts as lts
-use Rattle.tables.proofs.inner.first_refusal.Reads as first-refusal-reads
 
--- src/inner.rt:77:9
 returns : tie.Need-returns
 returns c = rw (lt-leb (c .before .args .n) 64 (c .if1 .taken))
 
--- src/inner.rt:79:11
 first-refusal-requires : tie.Need-first-refusal-requires
 first-refusal-requires c κs = search needs
 
--- src/inner.rt:80:24
 enum-told : tie.Need-enum-told
 enum-told c = search needs
 
--- src/inner.rt:81:30
 enum-told-2 : tie.Need-enum-told-2
 enum-told-2 c = search needs
 
--- src/inner.rt:73:1
 returns-2 : tie.Need-returns-2
 returns-2 c =
     rw (le-leb (c .before .before .before .before .before .before .args .n) 64 (c .before .before .before .before .before .if1 .left))
     (sym (ap (λ (r : Taken). eqb (takenIn r) 0) (c .enum-told .given .1)) ∙ c .before .before .first-refusal .ensures .1)
 
--- src/inner.rt:73:1
 returns-3 : tie.Need-returns-3
 returns-3 c =
     rw (le-leb (c .before .before .before .before .before .before .args .n) 64 (c .before .before .before .before .before .if1 .left))

@@ -12,38 +12,28 @@ use Rattle.tables.proofs.InForce.{rises, offset-is, none-in-force}
 use borrow.Author.Needs.{needs}
 use Rattle.tables.proofs.inner.offset_at.Statement.{statement}
 use Rattle.tables.proofs.inner.offset_at.Tie as tie
-use Rattle.tables.proofs.inner.offset_at.Reads as reads
-use Rattle.tables.proofs.inner.offset_at.Lts as lts
-use Rattle.tables.proofs.inner.passed.Reads as passed-reads
 
--- src/inner.rt:112:9
 returns : tie.Need-returns
 returns c =
     rw (c .if1 .taken) (sym (none-in-force (c .before .before .args .tai)))
 
--- src/inner.rt:114:9
 passed-requires : tie.Need-passed-requires
 passed-requires c κs =
     let a = c .before .before .args in
     (search needs, rises (now (a .thresholds)) (now (a .offsets)) (a .n) (search needs) (search needs) (c .before .before .pre .1 .1))
 
--- src/inner.rt:116:9
 shared-slice-copy-out-result : tie.Need-shared-slice-copy-out-result
 shared-slice-copy-out-result c = search needs
 
--- src/inner.rt:118:17
 sub-result : tie.Need-sub-result
 sub-result c = search needs
 
--- src/inner.rt:118:9
 mul-result : tie.Need-mul-result
 mul-result c = search needs
 
--- src/inner.rt:118:9
 shared-slice-copy-out-result-2 : tie.Need-shared-slice-copy-out-result-2
 shared-slice-copy-out-result-2 c = search needs
 
--- src/inner.rt:105:1
 returns-2 : tie.Need-returns-2
 returns-2 c =
     let p = c .before .before in
@@ -52,7 +42,6 @@ returns-2 c =
     let first : c .before .before .passed .result - 1 ≡ 0 = omega (arith, c .before .if2 .taken) in
     toZ-ofZ fits ∙ sym (rw first at (offset-is (now (a .thresholds)) (now (a .offsets)) (a .n) (search needs) (search needs) (a .tai) (p .passed .result) (omega (arith, p .before .if1 .left)) (p .passed .ensures)))
 
--- src/inner.rt:105:1
 returns-3 : tie.Need-returns-3
 returns-3 c =
     let p = c .before .before in

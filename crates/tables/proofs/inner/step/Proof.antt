@@ -1,5 +1,5 @@
 -- `inner::step` gives the number of the rule between neighbours: the bits of two offsets that fit tell whether they are equal.
-use mathlib.Core.Path.{_≡_, sym, ap, _∙_}
+use mathlib.Core.Path.{_≡_, ap}
 use borrow.Author.Needs.{needs}
 use borrow.Author.Tests.{le-leb, lt-leb}
 use lib.IntN.{ℤ, pos, _+ℤ_}
@@ -47,15 +47,21 @@ returns-3 : tie.Need-returns-3
 returns-3 c =
     let m = c .before .before in
     let s = m .before .before .before .before .before in
-    simp (lt-leb _ _ (m .before .before .if1 .left), equal-no _ _ (not-largest m),
-    equal-yes _ _ (bits-tell (next-fits s) (one-more-fits m) (rw (read-back s) at (c .if3 .taken))))
+    simp (
+      lt-leb _ _ (m .before .before .if1 .left),
+      equal-no _ _ (not-largest m),
+      equal-yes _ _ (bits-tell (next-fits s) (one-more-fits m) (rw (read-back s) at (c .if3 .taken))),
+    )
 
 returns-4 : tie.Need-returns-4
 returns-4 c =
     let m = c .before .before in
     let s = m .before .before .before .before .before in
-    simp (lt-leb _ _ (m .before .before .if1 .left), equal-no _ _ (not-largest m),
-    equal-no (offset (s .args .next)) (offset (s .args .before) +ℤ pos 1) (λ e. rw (read-back s) at (c .if3 .left) (ap (ofZ w32) e)))
+    simp (
+      lt-leb _ _ (m .before .before .if1 .left),
+      equal-no _ _ (not-largest m),
+      equal-no (offset (s .args .next)) (offset (s .args .before) +ℤ pos 1) (λ e. rw (read-back s) at (c .if3 .left) (ap (ofZ w32) e)),
+    )
 
 pub step-spec : {M : Type 1} → statement M
 step-spec = tie.close (tie.spec returns returns-2 add-one-more returns-3 returns-4)

@@ -1,5 +1,6 @@
-use mathlib.Core.Path.{_≡_, refl, sym, ap, _∙_}
-use Prim.Native.Nat.{ℕ, suc, _-_, _≤_}
+-- `inner::table_of` fills zeros from the front with the thresholds and offsets.
+use mathlib.Core.Path.{_≡_, refl}
+use Prim.Native.Nat.{_-_, _≤_}
 use native.Mathlib.Omega.{arith}
 use native.Mathlib.Numerals.{add-one}
 use borrow.Author.Needs.{needs}
@@ -12,8 +13,6 @@ use mir.Facts.{toZ-ofZ}
 use Rattle.tables.proofs.Filled.{over, over-more, table-is}
 use Rattle.tables.proofs.inner.table_of.Statement.{statement}
 use Rattle.tables.proofs.inner.table_of.Tie as tie
-use Rattle.tables.proofs.inner.table_of.Reads as reads
-use Rattle.tables.proofs.inner.table_of.Lts as lts
 
 abbrev Inv-loop : tie.InvT-loop
 Inv-loop thresholds offsets n kept-thresholds₀ kept-offsets₀ i₀ kept-thresholds kept-offsets i =
@@ -22,62 +21,50 @@ Inv-loop thresholds offsets n kept-thresholds₀ kept-offsets₀ i₀ kept-thres
 abbrev μ-loop : tie.MeasureT-loop
 μ-loop thresholds offsets n kept-thresholds₀ kept-offsets₀ i₀ kept-thresholds kept-offsets i = n - i
 
--- src/inner.rt:159:5
 loop-holds : tie.Need-loop-holds Inv-loop μ-loop
 loop-holds c = (search needs, refl, refl)
 
--- src/inner.rt:160:30
 mul-kept-thresholds : tie.Need-mul-kept-thresholds Inv-loop μ-loop
 mul-kept-thresholds c = search needs
 
--- src/inner.rt:160:30
 shared-slice-read-kept-thresholds : tie.Need-shared-slice-read-kept-thresholds Inv-loop μ-loop
 shared-slice-read-kept-thresholds c = search needs
 
--- src/inner.rt:160:9
 mul-kept-thresholds-2 : tie.Need-mul-kept-thresholds-2 Inv-loop μ-loop
 mul-kept-thresholds-2 c = search needs
 
--- src/inner.rt:160:9
 array-write-kept-thresholds : tie.Need-array-write-kept-thresholds Inv-loop μ-loop
 array-write-kept-thresholds c = search needs
 
--- src/inner.rt:161:27
 mul-kept-offsets : tie.Need-mul-kept-offsets Inv-loop μ-loop
 mul-kept-offsets c = search needs
 
--- src/inner.rt:161:27
 shared-slice-copy-out-kept-offsets : tie.Need-shared-slice-copy-out-kept-offsets Inv-loop μ-loop
 shared-slice-copy-out-kept-offsets c = search needs
 
--- src/inner.rt:161:9
 mul-kept-offsets-2 : tie.Need-mul-kept-offsets-2 Inv-loop μ-loop
 mul-kept-offsets-2 c = search needs
 
--- src/inner.rt:161:9
 array-set-from-kept-offsets : tie.Need-array-set-from-kept-offsets Inv-loop μ-loop
 array-set-from-kept-offsets c = search needs
 
--- src/inner.rt:162:9
 add-i : tie.Need-add-i Inv-loop μ-loop
 add-i c = search needs
 
--- src/inner.rt:159:5
 loop-less : tie.Need-loop-less Inv-loop μ-loop
 loop-less c = search needs
 
--- src/inner.rt:159:5
 loop-again : tie.Need-loop-again Inv-loop μ-loop
 loop-again c =
     let at = c .before .before .before in
     let i = at .loop .i in
     let a = at .before .args in
-    let fits : SFits w32 (getD (now (a .offsets)) i (pos 0)) = search needs in
-    (search needs,
-    rw (at .loop .inv .1, add-one) (over-more (replicate 64 0) (now (a .thresholds)) i 0 (search needs) (search needs)),
-    rw (toZ-ofZ fits, at .loop .inv .2, add-one) (over-more (replicate 64 (pos 0)) (now (a .offsets)) i (pos 0) (search needs) (search needs)))
+    let fits : SFits w32 (getD (now (a .offsets)) i (pos 0)) = search needs in (
+      search needs,
+      rw (at .loop .inv .1, add-one) (over-more (replicate 64 0) (now (a .thresholds)) i 0 (search needs) (search needs)),
+      rw (toZ-ofZ fits, at .loop .inv .2, add-one) (over-more (replicate 64 (pos 0)) (now (a .offsets)) i (pos 0) (search needs) (search needs)),
+    )
 
--- src/inner.rt:150:1
 returns : tie.Need-returns Inv-loop μ-loop
 returns c =
     let a = c .before .before .args in
