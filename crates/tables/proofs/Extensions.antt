@@ -35,6 +35,7 @@ stays-valid (p ∷ ps) e v z = go (decLt (length (p ∷ ps)) 64)
   where
     five : _≡_ {A = ℕ} 0 5 → ⊥
     five h = omega arith
+
     go : Dec (length (p ∷ ps) < 64) → valid (p ∷ ps ++ e ∷ []) ≡ true
     go (yes l) =
         valid-joined p ps e v (zero-follows (lastOr p ps) e (sym (z ∙ simp (lt-leb 64 (length (p ∷ ps)) l))))
@@ -72,7 +73,7 @@ module _ (t : LeapTable) (e : LeapEntry) where
         let k = checked t h h′ v in
         let room = has-room (t .thresholds) (t .offsets) (t .len) e (k .in-thresholds) (k .in-offsets) z in
         let list : entriesOf (joinedTo t e) ≡ entriesOf t ++ e ∷ [] =
-          rw add-one (one-stored (t .thresholds) (t .offsets) (t .len) (e .«tai_nanos») (e .«tai_minus_utc») (omega arith) (omega arith)) in
+        rw add-one (one-stored (t .thresholds) (t .offsets) (t .len) (e .«tai_nanos») (e .«tai_minus_utc») (omega arith) (omega arith)) in
         let few : t .len + 1 ≤ 64 = omega arith in
         record {
           list = list;
@@ -87,6 +88,7 @@ module _ (t : LeapTable) (e : LeapEntry) where
       where
         eight : _≡_ {A = ℕ} 8 0 → ⊥
         eight h = omega arith
+
         go : Decided → Grows t e (extended t e .1)
         go (no-table v) = absurd (eight (ap (λ (x : ℕ × LeapTable). x .0) (bad-table t e v) ∙ z))
         go (no-entry v k) = absurd (k (ap (λ (x : ℕ × LeapTable). x .0) (refuses t e v _ k refl) ∙ z))

@@ -30,8 +30,10 @@ module _ (es : List Entry) (t : ℕ) (v : valid es ≡ true) where
     where
       none : {i : ℕ} → i < 0 → ⊥
       none l = omega arith
+
       first : t < threshold (getD es 0 d)
       first = rw (at-place es 0 e d h) l
+
       go : (i : ℕ) → i < length es → Dec (0 < i) → t < threshold (getD es i d)
       go i b (yes p) = omega (arith, rises 0 i p b, first)
       go i b (no n) = let z : i ≡ 0 = omega (arith, n) in rw z first
@@ -46,6 +48,7 @@ module _ (es : List Entry) (t : ℕ) (v : valid es ≡ true) where
     where
       here : threshold (getD es k d) ≤ t
       here = rw (at-place es k e d h) l
+
       go : (i : ℕ) → Dec (i < k) → i < suc k → threshold (getD es i d) ≤ t
       go i (yes p) b = omega (arith, rises i k p (in-range es k e d h), here)
       go i (no n) b = let z : i ≡ k = omega (arith, n) in rw z here

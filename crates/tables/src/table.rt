@@ -3,6 +3,7 @@ ghost use mathlib.Core.Path.{_≡_};
 ghost use mathlib.Core.List.{[]};
 ghost use lib.Dec.{eqb};
 ghost use lib.ListN.{length, getElem?};
+ghost use Rattle.refusals.specs.Number.{numberOf};
 ghost use Rattle.refusals.specs.Outcome.{answered};
 ghost use Rattle.tables.specs.Entries.{offsetAt, currentOffset, lastUpdate};
 ghost use Rattle.tables.specs.Slots.{paired, entriesOf, ofValid, tableOf, extended, built};
@@ -57,16 +58,10 @@ impl LeapTable {
     {
         let n = self.len;
         if !inner::is_valid(&self.thresholds, &self.offsets, n) {
-            return Extension {
-                answer: Taken::Refused(Refusal::BadTable),
-                table: self,
-            };
+            return refused(Refusal::BadTable, self);
         }
         match inner::joins(&self.thresholds, &self.offsets, n, entry) {
-            Taken::Refused(why) => Extension {
-                answer: Taken::Refused(why),
-                table: self,
-            },
+            Taken::Refused(why) => refused(why, self),
             Taken::Done => Extension {
                 answer: Taken::Done,
                 table: inner::joined(self, entry),
@@ -155,12 +150,17 @@ impl LeapTable {
     }
 }
 
+// A refusal, with the table as it is handed in.
+fn refused(why: Refusal, table: LeapTable) -> Extension
+    ensures { λ r. ⌜ extensionIn r ≡ (numberOf why, table) ⌝ }
+{
+    let answer = Taken::Refused(why);
+    Extension { answer, table }
+}
+
 // A refused building: the table with no entry.
 fn unbuilt(why: Refusal) -> Extension
-    ensures { λ r. ⌜ (r .answer ≡ Taken.Refused why) × (r .table ≡ tableOf []) ⌝ }
+    ensures { λ r. ⌜ extensionIn r ≡ (numberOf why, tableOf []) ⌝ }
 {
-    Extension {
-        answer: Taken::Refused(why),
-        table: LeapTable::new(),
-    }
+    refused(why, LeapTable::new())
 }

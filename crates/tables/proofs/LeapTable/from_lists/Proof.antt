@@ -1,17 +1,13 @@
 -- `LeapTable::from_lists` gives the answer and the table of a building, by the first refusal.
 use mathlib.Core.Path.{_≡_, sym, ap, _∙_}
-use mathlib.Core.List.{[]}
 use native.Mathlib.Omega.{arith}
 use denote.Ref.{now}
 use lib.ListN.{length}
 use Rattle.refusals.specs.Number.{numberOf}
-use Rattle.refusals.specs.declared.Refusal.{Refusal}
 use Rattle.tables.specs.Entries.{firstRefusal}
 use Rattle.tables.specs.Slots.{paired, slots, tableOf}
-use Rattle.tables.specs.Answers.{takenIn, extensionIn}
-use Rattle.tables.specs.declared.Extension.{Extension}
+use Rattle.tables.specs.Answers.{takenIn}
 use Rattle.tables.specs.declared.LeapTable.{LeapTable}
-use Rattle.tables.specs.declared.Taken.the-variants.{Refused}
 use Rattle.tables.proofs.RefusalNumbers.{number-not-zero}
 use Rattle.tables.proofs.FirstSlots.{whole, paired-length}
 use Rattle.tables.proofs.Growing.{none-built, too-many, entry-refused, all-taken}
@@ -33,9 +29,6 @@ sized : (c : tie.After-shorter)
 sized c =
     paired-length (now (c .before .before .args .thresholds)) (now (c .before .before .args .offsets)) ∙ sym (c .shorter .ensures)
 
-refused : (r : Extension) (k : Refusal) → (r .answer ≡ Refused k) × (r .table ≡ tableOf []) → extensionIn r ≡ (numberOf k, tableOf [])
-refused r k h = rw (h .0, h .1)
-
 unbuilt-requires : tie.Need-unbuilt-requires
 unbuilt-requires c κs = search needs
 
@@ -43,7 +36,7 @@ returns : tie.Need-returns
 returns c =
     let z = sized (c .before .before) in
     let a = c .before .before .before .before .args in
-    refused _ _ (c .unbuilt .ensures) ∙ none-built (paired (now (a .thresholds)) (now (a .offsets))) (omega (arith, z, c .before .if1 .taken))
+    c .unbuilt .ensures ∙ none-built (paired (now (a .thresholds)) (now (a .offsets))) (omega (arith, z, c .before .if1 .taken))
 
 unbuilt-requires-2 : tie.Need-unbuilt-requires-2
 unbuilt-requires-2 c κs = search needs
@@ -52,7 +45,7 @@ returns-2 : tie.Need-returns-2
 returns-2 c =
     let z = sized (c .before .before .before) in
     let a = c .before .before .before .before .before .args in
-    refused _ _ (c .unbuilt2 .ensures) ∙ too-many (paired (now (a .thresholds)) (now (a .offsets))) (omega (arith, z, c .before .if2 .taken))
+    c .unbuilt2 .ensures ∙ too-many (paired (now (a .thresholds)) (now (a .offsets))) (omega (arith, z, c .before .if2 .taken))
 
 first-refusal-requires : tie.Need-first-refusal-requires
 first-refusal-requires c κs = search needs
@@ -75,7 +68,7 @@ returns-3 c =
     let z = sized (f .before .before .before) in
     let a = f .before .before .before .before .before .args in
     let k = c .before .before .why .given .0 .0 in
-    refused _ _ (c .unbuilt3 .ensures)
+    c .unbuilt3 .ensures
     ∙ entry-refused (paired (now (a .thresholds)) (now (a .offsets))) (numberOf k) (omega (arith, z, f .before .before .if1 .left)) (omega (arith, z, f .before .if2 .left))
     (number-not-zero k)
     (sym (ap takenIn (c .before .before .why .given .1)) ∙ f .first-refusal .ensures .0 ∙ ap firstRefusal (all (f .before .before .before)))

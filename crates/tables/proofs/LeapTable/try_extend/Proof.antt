@@ -18,10 +18,13 @@ known c = checked _ (search needs) (search needs) (sym (c .before .is-valid .ens
 is-valid-requires : tie.Need-is-valid-requires
 is-valid-requires c κs = search needs
 
+refused-requires : tie.Need-refused-requires
+refused-requires c κs = search needs
+
 returns : tie.Need-returns
 returns c =
-    let a = c .before .before .before .before .before .args in
-    bad-table (a .t1) (a .entry) (sym (c .before .is-valid .ensures) ∙ not-true _ (c .if1 .taken))
+    let a = c .before .before .before .before .before .before .args in
+    c .refused .ensures ∙ bad-table (a .t1) (a .entry) (sym (c .before .before .is-valid .ensures) ∙ not-true _ (c .before .if1 .taken))
 
 joins-requires : tie.Need-joins-requires
 joins-requires c κs =
@@ -30,6 +33,9 @@ joins-requires c κs =
 
 enum-known-why : tie.Need-enum-known-why
 enum-known-why c = search needs
+
+refused-requires-2 : tie.Need-refused-requires-2
+refused-requires-2 c κs = search needs
 
 enum-told : tie.Need-enum-told
 enum-told c = search needs
@@ -47,10 +53,12 @@ joined-requires c κs =
 
 returns-2 : tie.Need-returns-2
 returns-2 c =
-    let e = c .before .before .before .before .before .before .before .before .before in
+    let w = c .before .before in
+    let e = w .before .before .before .before .before .before .before .before in
     let a = e .before .before .before .before .before .args in
-    refuses (a .t1) (a .entry) (known e .passes) _ (number-not-zero (c .before .why .given .0 .0))
-    (sym (ap takenIn (c .before .why .given .1)) ∙ c .before .before .before .joins .ensures)
+    c .refused2 .ensures
+    ∙ refuses (a .t1) (a .entry) (known e .passes) _ (number-not-zero (w .why .given .0 .0))
+    (sym (ap takenIn (w .why .given .1)) ∙ w .before .before .joins .ensures)
 
 returns-3 : tie.Need-returns-3
 returns-3 c =
@@ -63,9 +71,11 @@ try-extend-spec =
     tie.close
     (tie.spec
     is-valid-requires
+    refused-requires
     returns
     joins-requires
     enum-known-why
+    refused-requires-2
     enum-told
     joined-requires
     returns-2
