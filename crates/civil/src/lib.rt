@@ -19,8 +19,11 @@ use scales::utc::Utc;
 use scales::utc::UtcAnswer;
 
 const SECONDS_PER_DAY: u64 = 86_400;
+
 const SECONDS_PER_HOUR: u64 = 3_600;
+
 const SECONDS_PER_MINUTE: u64 = 60;
+
 const NANOS_PER_DAY: u64 = SECONDS_PER_DAY * NANOS_PER_SECOND;
 
 // The Unix day of 1972-01-01: two years without a leap day.
@@ -83,7 +86,8 @@ impl CivilDateTime {
         let hour = self.hour as u64;
         let minute = self.minute as u64;
         let second = self.second as u64;
-        (hour * SECONDS_PER_HOUR + minute * SECONDS_PER_MINUTE + second) * NANOS_PER_SECOND + self.nanos as u64
+        (hour * SECONDS_PER_HOUR + minute * SECONDS_PER_MINUTE + second) * NANOS_PER_SECOND
+            + self.nanos as u64
     }
 
     // The count of the fields: refused before 1972-01-01, and where it does not fit.
