@@ -62,7 +62,7 @@ impl DurationParts {
     pub fn new(seconds: u64, nanos: u32) -> PartsAnswer
         ensures { λ r. ⌜ partsIn r ≡ partsFrom seconds nanos ⌝ }
     {
-        if 1_000_000_000 <= nanos {
+        if NANOS_PER_SECOND <= nanos as u64 {
             PartsAnswer::Refused(Refusal::InvalidInput)
         } else {
             PartsAnswer::Parts(DurationParts { seconds, nanos })
@@ -76,12 +76,12 @@ pub fn of_units(unit_seconds: u32, whole: u32, rest: DurationParts) -> CountAnsw
 {
     let unit = unit_seconds as u64;
     let seconds = rest.seconds;
-    let nanos = rest.nanos;
+    let nanos = rest.nanos as u64;
     if unit <= seconds {
         return CountAnswer::Refused(Refusal::InvalidInput);
     }
-    if 1_000_000_000 <= nanos {
+    if NANOS_PER_SECOND <= nanos {
         return CountAnswer::Refused(Refusal::InvalidInput);
     }
-    from_seconds_and((whole as u64) * unit + seconds, nanos as u64)
+    from_seconds_and((whole as u64) * unit + seconds, nanos)
 }

@@ -1,3 +1,4 @@
 pub mod OneAnswer
 pub mod Tells
+pub mod Given
 pub mod Calls

@@ -9,6 +9,16 @@ module _ {Lifetimes : Type 0} {Arguments Answer End : Lifetimes → Type 0} wher
       (κ : Lifetimes) (a : Arguments κ) (x y : Answer κ) (e f : End κ)
       → Contract κ a x e → Contract κ a y f → x ≡ y
 
+  -- and what they leave behind the references that they write is equal too
+  abbrev pub OneAnswerAndEnd : {Left : Type 0} → ((κ : Lifetimes) → Arguments κ → Answer κ → End κ → Type 0) → ((κ : Lifetimes) → End κ → Left) → Type 0
+  OneAnswerAndEnd Contract left =
+      (κ : Lifetimes) (a : Arguments κ) (x y : Answer κ) (e f : End κ)
+      → Contract κ a x e → Contract κ a y f → (x ≡ y) × (left κ e ≡ left κ f)
+
+-- two equations each leave one answer and one value
+pub both : {A B : Type 0} {x y a : A} {u v b : B} → (x ≡ a) × (u ≡ b) → (y ≡ a) × (v ≡ b) → (x ≡ y) × (u ≡ v)
+both p q = (p .0 ∙ sym (q .0), p .1 ∙ sym (q .1))
+
 -- a contract that gives a view of the answer by a definition leaves one answer, where the view tells answers apart
 pub viewed : {A B : Type 0} {view : A → B} {d : B} → ((x y : A) → view x ≡ view y → x ≡ y) → (x y : A) → view x ≡ d → view y ≡ d → x ≡ y
 viewed tells x y p q = tells x y (p ∙ sym q)

@@ -9,8 +9,11 @@ use Rattle.counts.proofs.units.of_units.Statement.{statement}
 use Rattle.counts.proofs.units.of_units.Tie as tie
 
 -- the whole units in seconds
-product : (c : tie.Else2) → c .before .before .args .whole * c .before .before .args .«unit-seconds» ≤ 4294967295 * 4294967295
+product : (c : tie.Else2) → c .before .before .before .args .whole * c .before .before .before .args .«unit-seconds» ≤ 4294967295 * 4294967295
 product c = mul-le-mul {n₂ = 4294967295} {m₂ = 4294967295} (omega arith) (omega arith)
+
+cast-nanos : tie.Need-cast-nanos
+cast-nanos c = search needs
 
 returns : tie.Need-returns
 returns c = simp (le-leb _ _ (c .if1 .taken))
@@ -24,9 +27,6 @@ mul-from-seconds-and c = omega (arith, product c)
 add-from-seconds-and : tie.Need-add-from-seconds-and
 add-from-seconds-and c = omega (arith, product c)
 
-cast-from-seconds-and : tie.Need-cast-from-seconds-and
-cast-from-seconds-and c = search needs
-
 from-seconds-and-requires : tie.Need-from-seconds-and-requires
 from-seconds-and-requires c κs = search needs
 
@@ -37,10 +37,10 @@ pub of-units-spec : {M : Type 1} → statement M
 of-units-spec =
     tie.close
     (tie.spec
+    cast-nanos
     returns
     returns-2
     mul-from-seconds-and
     add-from-seconds-and
-    cast-from-seconds-and
     from-seconds-and-requires
     returns-3)

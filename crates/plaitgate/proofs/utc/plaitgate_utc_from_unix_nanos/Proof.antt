@@ -1,0 +1,26 @@
+-- `plaitgate_utc_from_unix_nanos` meets its contract: the answer of the call, handed on.
+use mathlib.Core.Path.{ap, _∙_}
+use Prim.Native.Nat.{_*_}
+use lib.IntN.{ℤ, pos, _-ℤ_}
+use Rattle.counts.specs.Exact.{countOf}
+use Rattle.counts.specs.Units.{second, unixOffset}
+use borrow.Author.Needs.{needs}
+use mir.Facts.{toZ-ofZ}
+use Rattle.refusals.proofs.Given.{gives-same}
+use Rattle.plaitgate.proofs.utc.plaitgate_utc_from_unix_nanos.Statement.{statement}
+use Rattle.plaitgate.proofs.utc.plaitgate_utc_from_unix_nanos.Tie as tie
+
+from-unix-nanos-requires : tie.Need-from-unix-nanos-requires
+from-unix-nanos-requires c κs = search needs
+
+utc-count-requires : tie.Need-utc-count-requires
+utc-count-requires c κs = search needs
+
+returns : tie.Need-returns
+returns c =
+    gives-same 0 (c .before .before .from-unix-nanos .ensures
+    ∙ ap (λ (z : ℤ). countOf (z -ℤ pos (unixOffset * second))) (toZ-ofZ (c .before .before .before .fits .nanos)))
+    (c .utc-count .ensures)
+
+pub plaitgate-utc-from-unix-nanos-spec : {M : Type 1} → statement M
+plaitgate-utc-from-unix-nanos-spec = tie.close (tie.spec from-unix-nanos-requires utc-count-requires returns)

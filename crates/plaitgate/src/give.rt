@@ -1,0 +1,106 @@
+// An answer handed to a host: its refusal's number is returned, its value written.
+ghost use mathlib.Core.Path.{_≡_};
+ghost use lib.IntN.{pos};
+ghost use Rattle.refusals.specs.Outcome.{Gives};
+ghost use Rattle.counts.specs.Answers.{durationIn, partsIn};
+ghost use Rattle.counts.specs.Units.{partsOf};
+ghost use Rattle.scales.specs.Answers.{gpsIn, utcIn, glonassIn, taiIn};
+use counts::DurationAnswer;
+use counts::units::PartsAnswer;
+use scales::glonass::GlonassAnswer;
+use scales::gps::GpsAnswer;
+use scales::tai::TaiAnswer;
+use scales::utc::UtcAnswer;
+
+pub fn gps_count(answer: GpsAnswer, out: &mut u64) -> u32
+    ensures { λ r. ⌜ Gives 0 (gpsIn answer) r (now (out .exit)) ⌝ }
+{
+    match answer {
+        GpsAnswer::Count(t) => {
+            *out = t.0;
+            0
+        }
+        GpsAnswer::Refused(r) => {
+            *out = 0;
+            r.number()
+        }
+    }
+}
+
+pub fn utc_count(answer: UtcAnswer, out: &mut u64) -> u32
+    ensures { λ r. ⌜ Gives 0 (utcIn answer) r (now (out .exit)) ⌝ }
+{
+    match answer {
+        UtcAnswer::Count(t) => {
+            *out = t.0;
+            0
+        }
+        UtcAnswer::Refused(r) => {
+            *out = 0;
+            r.number()
+        }
+    }
+}
+
+pub fn glonass_count(answer: GlonassAnswer, out: &mut u64) -> u32
+    ensures { λ r. ⌜ Gives 0 (glonassIn answer) r (now (out .exit)) ⌝ }
+{
+    match answer {
+        GlonassAnswer::Count(t) => {
+            *out = t.0;
+            0
+        }
+        GlonassAnswer::Refused(r) => {
+            *out = 0;
+            r.number()
+        }
+    }
+}
+
+pub fn tai_count(answer: TaiAnswer, out: &mut u64) -> u32
+    ensures { λ r. ⌜ Gives 0 (taiIn answer) r (now (out .exit)) ⌝ }
+{
+    match answer {
+        TaiAnswer::Count(t) => {
+            *out = t.0;
+            0
+        }
+        TaiAnswer::Refused(r) => {
+            *out = 0;
+            r.number()
+        }
+    }
+}
+
+pub fn duration(answer: DurationAnswer, out: &mut i64) -> u32
+    ensures { λ r. ⌜ Gives (pos 0) (durationIn answer) r (now (out .exit)) ⌝ }
+{
+    match answer {
+        DurationAnswer::Lasts(d) => {
+            let nanos = d.0;
+            *out = nanos;
+            0
+        }
+        DurationAnswer::Refused(r) => {
+            *out = 0;
+            r.number()
+        }
+    }
+}
+
+pub fn parts(answer: PartsAnswer, seconds: &mut u64, nanos: &mut u32) -> u32
+    ensures { λ r. ⌜ Gives (partsOf 0) (partsIn answer) r (record { seconds = now (seconds .exit); nanos = now (nanos .exit) }) ⌝ }
+{
+    match answer {
+        PartsAnswer::Parts(p) => {
+            *seconds = p.seconds;
+            *nanos = p.nanos;
+            0
+        }
+        PartsAnswer::Refused(r) => {
+            *seconds = 0;
+            *nanos = 0;
+            r.number()
+        }
+    }
+}

@@ -1,0 +1,186 @@
+// GLONASS counts.
+ghost use mathlib.Core.Path.{_≡_};
+ghost use Prim.Native.Nat.{_*_, _/_, _%_};
+ghost use lib.IntN.{pos, _+ℤ_, _-ℤ_};
+ghost use Rattle.refusals.specs.Outcome.{Gives, answered};
+ghost use Rattle.counts.specs.Exact.{countOf, durationOf, nearestCount};
+ghost use Rattle.counts.specs.Units.{second, daySeconds, partsOf, ofUnits};
+ghost use mathlib.Core.Bool.{cond};
+ghost use lib.Dec.{leb};
+ghost use Rattle.scales.specs.Scales.{weekdayOf};
+ghost use Rattle.plaitgate.specs.Limits.{limits, limitsAt};
+use crate::give;
+use counts::Duration;
+use counts::units::DurationParts;
+use scales::glonass::Glonass;
+
+#[no_mangle]
+pub extern "C" fn plaitgate_glonass_from_nanos(nanos: u64, count: &mut u64) -> u32
+    ensures { λ r. ⌜ Gives 0 (answered nanos) r (now (count .exit)) ⌝ }
+{
+    let t = Glonass::from_nanos(nanos);
+    *count = t.0;
+    0
+}
+
+#[no_mangle]
+pub extern "C" fn plaitgate_glonass_as_nanos(count: u64, nanos: &mut u64) -> u32
+    ensures { λ r. ⌜ Gives 0 (answered count) r (now (nanos .exit)) ⌝ }
+{
+    *nanos = Glonass(count).as_nanos();
+    0
+}
+
+#[no_mangle]
+pub extern "C" fn plaitgate_glonass_checked_from_seconds(seconds: u64, count: &mut u64) -> u32
+    ensures { λ r. ⌜ Gives 0 (countOf (pos (seconds * second))) r (now (count .exit)) ⌝ }
+{
+    give::glonass_count(Glonass::checked_from_seconds(seconds), count)
+}
+
+#[no_mangle]
+pub extern "C" fn plaitgate_glonass_as_seconds(count: u64, seconds: &mut u64) -> u32
+    ensures { λ r. ⌜ Gives 0 (answered (count / second)) r (now (seconds .exit)) ⌝ }
+{
+    *seconds = Glonass(count).as_seconds();
+    0
+}
+
+#[no_mangle]
+pub extern "C" fn plaitgate_glonass_as_parts(count: u64, seconds: &mut u64, nanos: &mut u32) -> u32
+    ensures { λ r. ⌜ Gives (partsOf 0) (answered (partsOf count)) r (record { seconds = now (seconds .exit); nanos = now (nanos .exit) }) ⌝ }
+{
+    let parts = Glonass(count).as_parts();
+    *seconds = parts.seconds;
+    *nanos = parts.nanos;
+    0
+}
+
+#[no_mangle]
+pub extern "C" fn plaitgate_glonass_checked_add(count: u64, duration: i64, sum: &mut u64) -> u32
+    ensures { λ r. ⌜ Gives 0 (countOf (pos count +ℤ duration)) r (now (sum .exit)) ⌝ }
+{
+    give::glonass_count(Glonass(count).checked_add(Duration(duration)), sum)
+}
+
+#[no_mangle]
+pub extern "C" fn plaitgate_glonass_checked_sub_duration(
+    count: u64,
+    duration: i64,
+    difference: &mut u64,
+) -> u32
+    ensures { λ r. ⌜ Gives 0 (countOf (pos count -ℤ duration)) r (now (difference .exit)) ⌝ }
+{
+    give::glonass_count(
+        Glonass(count).checked_sub_duration(Duration(duration)),
+        difference,
+    )
+}
+
+#[no_mangle]
+pub extern "C" fn plaitgate_glonass_saturating_add(count: u64, duration: i64, sum: &mut u64) -> u32
+    ensures { λ r. ⌜ Gives 0 (answered (nearestCount (pos count +ℤ duration))) r (now (sum .exit)) ⌝ }
+{
+    let t = Glonass(count).saturating_add(Duration(duration));
+    *sum = t.0;
+    0
+}
+
+#[no_mangle]
+pub extern "C" fn plaitgate_glonass_saturating_sub_duration(
+    count: u64,
+    duration: i64,
+    difference: &mut u64,
+) -> u32
+    ensures { λ r. ⌜ Gives 0 (answered (nearestCount (pos count -ℤ duration))) r (now (difference .exit)) ⌝ }
+{
+    let t = Glonass(count).saturating_sub_duration(Duration(duration));
+    *difference = t.0;
+    0
+}
+
+#[no_mangle]
+pub extern "C" fn plaitgate_glonass_checked_elapsed(
+    count: u64,
+    earlier: u64,
+    duration: &mut i64,
+) -> u32
+    ensures { λ r. ⌜ Gives (pos 0) (durationOf (pos count -ℤ pos earlier)) r (now (duration .exit)) ⌝ }
+{
+    give::duration(Glonass(count).checked_elapsed(Glonass(earlier)), duration)
+}
+
+#[no_mangle]
+pub extern "C" fn plaitgate_glonass_limits(
+    epoch: &mut u64,
+    min: &mut u64,
+    max: &mut u64,
+    nanos_per_year: &mut u64,
+) -> u32
+    ensures { λ r. ⌜ Gives (limitsAt 0 0 0 0) (answered limits) r (limitsAt (now (epoch .exit)) (now (min .exit)) (now (max .exit)) (now («nanos_per_year» .exit))) ⌝ }
+{
+    *epoch = Glonass::EPOCH.0;
+    *min = Glonass::MIN.0;
+    *max = Glonass::MAX.0;
+    *nanos_per_year = Glonass::NANOS_PER_YEAR;
+    0
+}
+
+#[no_mangle]
+pub extern "C" fn plaitgate_glonass_from_day_tod(
+    day: u32,
+    seconds: u64,
+    nanos: u32,
+    count: &mut u64,
+) -> u32
+    ensures { λ r. ⌜ Gives 0 (ofUnits daySeconds day seconds nanos) r (now (count .exit)) ⌝ }
+{
+    give::glonass_count(
+        Glonass::from_day_tod(day, DurationParts { seconds, nanos }),
+        count,
+    )
+}
+
+#[no_mangle]
+pub extern "C" fn plaitgate_glonass_day(count: u64, day: &mut u32) -> u32
+    ensures { λ r. ⌜ Gives 0 (answered (count / (daySeconds * second))) r (now (day .exit)) ⌝ }
+{
+    *day = Glonass(count).day();
+    0
+}
+
+#[no_mangle]
+pub extern "C" fn plaitgate_glonass_tod_seconds(count: u64, seconds: &mut u32) -> u32
+    ensures { λ r. ⌜ Gives 0 (answered (count % (daySeconds * second) / second)) r (now (seconds .exit)) ⌝ }
+{
+    *seconds = Glonass(count).tod_seconds();
+    0
+}
+
+#[no_mangle]
+pub extern "C" fn plaitgate_glonass_sub_second_nanos(count: u64, nanos: &mut u32) -> u32
+    ensures { λ r. ⌜ Gives 0 (answered (count % second)) r (now (nanos .exit)) ⌝ }
+{
+    *nanos = Glonass(count).sub_second_nanos();
+    0
+}
+
+#[no_mangle]
+pub extern "C" fn plaitgate_glonass_day_of_week(count: u64, weekday: &mut u8) -> u32
+    ensures { λ r. ⌜ Gives 0 (answered (weekdayOf count)) r (now (weekday .exit)) ⌝ }
+{
+    *weekday = Glonass(count).day_of_week();
+    0
+}
+
+#[no_mangle]
+pub extern "C" fn plaitgate_glonass_is_weekend(count: u64, yes: &mut u8) -> u32
+    ensures { λ r. ⌜ Gives 0 (answered (cond (leb 6 (weekdayOf count)) 1 0)) r (now (yes .exit)) ⌝ }
+{
+    if Glonass(count).is_weekend() {
+        *yes = 1;
+    } else {
+        *yes = 0;
+    }
+    0
+}

@@ -1,0 +1,175 @@
+// GPS counts.
+ghost use mathlib.Core.Path.{_≡_};
+ghost use Prim.Native.Nat.{_+_, _*_, _/_, _%_};
+ghost use lib.IntN.{pos, _+ℤ_, _-ℤ_};
+ghost use Rattle.refusals.specs.Outcome.{Gives, answered};
+ghost use Rattle.counts.specs.Exact.{countOf, durationOf, nearestCount};
+ghost use Rattle.counts.specs.Units.{second, weekSeconds, partsOf, ofUnits};
+ghost use Rattle.scales.specs.Scales.{taiMinusGps};
+ghost use Rattle.plaitgate.specs.Limits.{limits, limitsAt};
+use crate::give;
+use counts::Duration;
+use counts::units::DurationParts;
+use scales::gps::Gps;
+use scales::tai::Tai;
+
+#[no_mangle]
+pub extern "C" fn plaitgate_gps_from_nanos(nanos: u64, count: &mut u64) -> u32
+    ensures { λ r. ⌜ Gives 0 (answered nanos) r (now (count .exit)) ⌝ }
+{
+    let t = Gps::from_nanos(nanos);
+    *count = t.0;
+    0
+}
+
+#[no_mangle]
+pub extern "C" fn plaitgate_gps_as_nanos(count: u64, nanos: &mut u64) -> u32
+    ensures { λ r. ⌜ Gives 0 (answered count) r (now (nanos .exit)) ⌝ }
+{
+    *nanos = Gps(count).as_nanos();
+    0
+}
+
+#[no_mangle]
+pub extern "C" fn plaitgate_gps_checked_from_seconds(seconds: u64, count: &mut u64) -> u32
+    ensures { λ r. ⌜ Gives 0 (countOf (pos (seconds * second))) r (now (count .exit)) ⌝ }
+{
+    give::gps_count(Gps::checked_from_seconds(seconds), count)
+}
+
+#[no_mangle]
+pub extern "C" fn plaitgate_gps_as_seconds(count: u64, seconds: &mut u64) -> u32
+    ensures { λ r. ⌜ Gives 0 (answered (count / second)) r (now (seconds .exit)) ⌝ }
+{
+    *seconds = Gps(count).as_seconds();
+    0
+}
+
+#[no_mangle]
+pub extern "C" fn plaitgate_gps_as_parts(count: u64, seconds: &mut u64, nanos: &mut u32) -> u32
+    ensures { λ r. ⌜ Gives (partsOf 0) (answered (partsOf count)) r (record { seconds = now (seconds .exit); nanos = now (nanos .exit) }) ⌝ }
+{
+    let parts = Gps(count).as_parts();
+    *seconds = parts.seconds;
+    *nanos = parts.nanos;
+    0
+}
+
+#[no_mangle]
+pub extern "C" fn plaitgate_gps_checked_add(count: u64, duration: i64, sum: &mut u64) -> u32
+    ensures { λ r. ⌜ Gives 0 (countOf (pos count +ℤ duration)) r (now (sum .exit)) ⌝ }
+{
+    give::gps_count(Gps(count).checked_add(Duration(duration)), sum)
+}
+
+#[no_mangle]
+pub extern "C" fn plaitgate_gps_checked_sub_duration(
+    count: u64,
+    duration: i64,
+    difference: &mut u64,
+) -> u32
+    ensures { λ r. ⌜ Gives 0 (countOf (pos count -ℤ duration)) r (now (difference .exit)) ⌝ }
+{
+    give::gps_count(
+        Gps(count).checked_sub_duration(Duration(duration)),
+        difference,
+    )
+}
+
+#[no_mangle]
+pub extern "C" fn plaitgate_gps_saturating_add(count: u64, duration: i64, sum: &mut u64) -> u32
+    ensures { λ r. ⌜ Gives 0 (answered (nearestCount (pos count +ℤ duration))) r (now (sum .exit)) ⌝ }
+{
+    let t = Gps(count).saturating_add(Duration(duration));
+    *sum = t.0;
+    0
+}
+
+#[no_mangle]
+pub extern "C" fn plaitgate_gps_saturating_sub_duration(
+    count: u64,
+    duration: i64,
+    difference: &mut u64,
+) -> u32
+    ensures { λ r. ⌜ Gives 0 (answered (nearestCount (pos count -ℤ duration))) r (now (difference .exit)) ⌝ }
+{
+    let t = Gps(count).saturating_sub_duration(Duration(duration));
+    *difference = t.0;
+    0
+}
+
+#[no_mangle]
+pub extern "C" fn plaitgate_gps_checked_elapsed(count: u64, earlier: u64, duration: &mut i64) -> u32
+    ensures { λ r. ⌜ Gives (pos 0) (durationOf (pos count -ℤ pos earlier)) r (now (duration .exit)) ⌝ }
+{
+    give::duration(Gps(count).checked_elapsed(Gps(earlier)), duration)
+}
+
+#[no_mangle]
+pub extern "C" fn plaitgate_gps_limits(
+    epoch: &mut u64,
+    min: &mut u64,
+    max: &mut u64,
+    nanos_per_year: &mut u64,
+) -> u32
+    ensures { λ r. ⌜ Gives (limitsAt 0 0 0 0) (answered limits) r (limitsAt (now (epoch .exit)) (now (min .exit)) (now (max .exit)) (now («nanos_per_year» .exit))) ⌝ }
+{
+    *epoch = Gps::EPOCH.0;
+    *min = Gps::MIN.0;
+    *max = Gps::MAX.0;
+    *nanos_per_year = Gps::NANOS_PER_YEAR;
+    0
+}
+
+#[no_mangle]
+pub extern "C" fn plaitgate_gps_from_week_tow(
+    week: u32,
+    seconds: u64,
+    nanos: u32,
+    count: &mut u64,
+) -> u32
+    ensures { λ r. ⌜ Gives 0 (ofUnits weekSeconds week seconds nanos) r (now (count .exit)) ⌝ }
+{
+    give::gps_count(
+        Gps::from_week_tow(week, DurationParts { seconds, nanos }),
+        count,
+    )
+}
+
+#[no_mangle]
+pub extern "C" fn plaitgate_gps_week(count: u64, week: &mut u32) -> u32
+    ensures { λ r. ⌜ Gives 0 (answered (count / (weekSeconds * second))) r (now (week .exit)) ⌝ }
+{
+    *week = Gps(count).week();
+    0
+}
+
+#[no_mangle]
+pub extern "C" fn plaitgate_gps_tow_seconds(count: u64, seconds: &mut u32) -> u32
+    ensures { λ r. ⌜ Gives 0 (answered (count % (weekSeconds * second) / second)) r (now (seconds .exit)) ⌝ }
+{
+    *seconds = Gps(count).tow_seconds();
+    0
+}
+
+#[no_mangle]
+pub extern "C" fn plaitgate_gps_sub_second_nanos(count: u64, nanos: &mut u32) -> u32
+    ensures { λ r. ⌜ Gives 0 (answered (count % second)) r (now (nanos .exit)) ⌝ }
+{
+    *nanos = Gps(count).sub_second_nanos();
+    0
+}
+
+#[no_mangle]
+pub extern "C" fn plaitgate_gps_to_tai(count: u64, tai: &mut u64) -> u32
+    ensures { λ r. ⌜ Gives 0 (countOf (pos (count + taiMinusGps))) r (now (tai .exit)) ⌝ }
+{
+    give::tai_count(Gps(count).to_tai(), tai)
+}
+
+#[no_mangle]
+pub extern "C" fn plaitgate_gps_from_tai(tai: u64, count: &mut u64) -> u32
+    ensures { λ r. ⌜ Gives 0 (countOf (pos tai -ℤ pos taiMinusGps)) r (now (count .exit)) ⌝ }
+{
+    give::gps_count(Gps::from_tai(Tai(tai)), count)
+}

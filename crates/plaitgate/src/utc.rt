@@ -1,0 +1,149 @@
+// UTC counts, and Unix time.
+ghost use mathlib.Core.Path.{_≡_};
+ghost use Prim.Native.Nat.{_+_, _-_, _*_, _/_, _^_, min};
+ghost use lib.IntN.{pos, _+ℤ_, _-ℤ_, _*ℤ_};
+ghost use Rattle.refusals.specs.Outcome.{Gives, answered};
+ghost use Rattle.counts.specs.Exact.{countOf, durationOf, nearestCount};
+ghost use Rattle.counts.specs.Units.{second, unixOffset, partsOf};
+ghost use Rattle.plaitgate.specs.Limits.{limits, limitsAt};
+use crate::give;
+use counts::Duration;
+use scales::utc::Utc;
+
+#[no_mangle]
+pub extern "C" fn plaitgate_utc_from_nanos(nanos: u64, count: &mut u64) -> u32
+    ensures { λ r. ⌜ Gives 0 (answered nanos) r (now (count .exit)) ⌝ }
+{
+    let t = Utc::from_nanos(nanos);
+    *count = t.0;
+    0
+}
+
+#[no_mangle]
+pub extern "C" fn plaitgate_utc_as_nanos(count: u64, nanos: &mut u64) -> u32
+    ensures { λ r. ⌜ Gives 0 (answered count) r (now (nanos .exit)) ⌝ }
+{
+    *nanos = Utc(count).as_nanos();
+    0
+}
+
+#[no_mangle]
+pub extern "C" fn plaitgate_utc_checked_from_seconds(seconds: u64, count: &mut u64) -> u32
+    ensures { λ r. ⌜ Gives 0 (countOf (pos (seconds * second))) r (now (count .exit)) ⌝ }
+{
+    give::utc_count(Utc::checked_from_seconds(seconds), count)
+}
+
+#[no_mangle]
+pub extern "C" fn plaitgate_utc_as_seconds(count: u64, seconds: &mut u64) -> u32
+    ensures { λ r. ⌜ Gives 0 (answered (count / second)) r (now (seconds .exit)) ⌝ }
+{
+    *seconds = Utc(count).as_seconds();
+    0
+}
+
+#[no_mangle]
+pub extern "C" fn plaitgate_utc_as_parts(count: u64, seconds: &mut u64, nanos: &mut u32) -> u32
+    ensures { λ r. ⌜ Gives (partsOf 0) (answered (partsOf count)) r (record { seconds = now (seconds .exit); nanos = now (nanos .exit) }) ⌝ }
+{
+    let parts = Utc(count).as_parts();
+    *seconds = parts.seconds;
+    *nanos = parts.nanos;
+    0
+}
+
+#[no_mangle]
+pub extern "C" fn plaitgate_utc_checked_add(count: u64, duration: i64, sum: &mut u64) -> u32
+    ensures { λ r. ⌜ Gives 0 (countOf (pos count +ℤ duration)) r (now (sum .exit)) ⌝ }
+{
+    give::utc_count(Utc(count).checked_add(Duration(duration)), sum)
+}
+
+#[no_mangle]
+pub extern "C" fn plaitgate_utc_checked_sub_duration(
+    count: u64,
+    duration: i64,
+    difference: &mut u64,
+) -> u32
+    ensures { λ r. ⌜ Gives 0 (countOf (pos count -ℤ duration)) r (now (difference .exit)) ⌝ }
+{
+    give::utc_count(
+        Utc(count).checked_sub_duration(Duration(duration)),
+        difference,
+    )
+}
+
+#[no_mangle]
+pub extern "C" fn plaitgate_utc_saturating_add(count: u64, duration: i64, sum: &mut u64) -> u32
+    ensures { λ r. ⌜ Gives 0 (answered (nearestCount (pos count +ℤ duration))) r (now (sum .exit)) ⌝ }
+{
+    let t = Utc(count).saturating_add(Duration(duration));
+    *sum = t.0;
+    0
+}
+
+#[no_mangle]
+pub extern "C" fn plaitgate_utc_saturating_sub_duration(
+    count: u64,
+    duration: i64,
+    difference: &mut u64,
+) -> u32
+    ensures { λ r. ⌜ Gives 0 (answered (nearestCount (pos count -ℤ duration))) r (now (difference .exit)) ⌝ }
+{
+    let t = Utc(count).saturating_sub_duration(Duration(duration));
+    *difference = t.0;
+    0
+}
+
+#[no_mangle]
+pub extern "C" fn plaitgate_utc_checked_elapsed(count: u64, earlier: u64, duration: &mut i64) -> u32
+    ensures { λ r. ⌜ Gives (pos 0) (durationOf (pos count -ℤ pos earlier)) r (now (duration .exit)) ⌝ }
+{
+    give::duration(Utc(count).checked_elapsed(Utc(earlier)), duration)
+}
+
+#[no_mangle]
+pub extern "C" fn plaitgate_utc_limits(
+    epoch: &mut u64,
+    min: &mut u64,
+    max: &mut u64,
+    nanos_per_year: &mut u64,
+) -> u32
+    ensures { λ r. ⌜ Gives (limitsAt 0 0 0 0) (answered limits) r (limitsAt (now (epoch .exit)) (now (min .exit)) (now (max .exit)) (now («nanos_per_year» .exit))) ⌝ }
+{
+    *epoch = Utc::EPOCH.0;
+    *min = Utc::MIN.0;
+    *max = Utc::MAX.0;
+    *nanos_per_year = Utc::NANOS_PER_YEAR;
+    0
+}
+
+#[no_mangle]
+pub extern "C" fn plaitgate_utc_from_unix_seconds(seconds: i64, count: &mut u64) -> u32
+    ensures { λ r. ⌜ Gives 0 (countOf ((seconds -ℤ pos unixOffset) *ℤ pos second)) r (now (count .exit)) ⌝ }
+{
+    give::utc_count(Utc::from_unix_seconds(seconds), count)
+}
+
+#[no_mangle]
+pub extern "C" fn plaitgate_utc_from_unix_nanos(nanos: i64, count: &mut u64) -> u32
+    ensures { λ r. ⌜ Gives 0 (countOf (nanos -ℤ pos (unixOffset * second))) r (now (count .exit)) ⌝ }
+{
+    give::utc_count(Utc::from_unix_nanos(nanos), count)
+}
+
+#[no_mangle]
+pub extern "C" fn plaitgate_utc_as_unix_seconds(count: u64, seconds: &mut i64) -> u32
+    ensures { λ r. ⌜ Gives (pos 0) (answered (pos (count / second + unixOffset))) r (now (seconds .exit)) ⌝ }
+{
+    *seconds = Utc(count).as_unix_seconds();
+    0
+}
+
+#[no_mangle]
+pub extern "C" fn plaitgate_utc_as_unix_nanos(count: u64, nanos: &mut i64) -> u32
+    ensures { λ r. ⌜ Gives (pos 0) (answered (pos (min (count + unixOffset * second) (2 ^ 63 - 1)))) r (now (nanos .exit)) ⌝ }
+{
+    *nanos = Utc(count).as_unix_nanos();
+    0
+}

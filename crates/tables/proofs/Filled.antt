@@ -1,0 +1,60 @@
+-- A list written over from the front, one element at a turn, and the table that is made so.
+use mathlib.Core.Path.{_≡_, refl, sym, ap, _∙_}
+use mathlib.Core.List.{List, [], _∷_, _++_, map}
+use Prim.Native.Nat.{ℕ, zero, suc, _-_, _≤_, _<_}
+use native.Mathlib.Omega.{arith}
+use lib.ListN.{length, getD, set, take, drop, replicate}
+use lib.IntN.{ℤ, pos}
+use Rattle.tables.specs.Entries.{Entry, threshold, offset}
+use Rattle.tables.specs.Slots.{paired, slots, tableOf}
+use Rattle.tables.specs.declared.LeapTable.{LeapTable}
+use Rattle.tables.proofs.FirstSlots.{slots-length}
+
+-- the first n of s, and what d has behind them
+abbrev pub over : {A : Type 0} → List A → List A → ℕ → List A
+over d s n = take n s ++ drop n d
+
+pub over-more : {A : Type 0} (d s : List A) (j : ℕ) (z : A) → j < length d → j < length s → set (over d s j) j (getD s j z) ≡ over d s (suc j)
+over-more [] s j z h k = absurd (none h)
+  where
+    none : {j : ℕ} → j < 0 → ⊥
+    none l = omega arith
+over-more (y ∷ d) [] j z h k = absurd (none k)
+  where
+    none : {j : ℕ} → j < 0 → ⊥
+    none l = omega arith
+over-more (y ∷ d) (x ∷ s) zero z h k = refl
+over-more {A} (y ∷ d) (x ∷ s) (suc j) z h k = ap (λ (l : List A). x ∷ l) (over-more d s j z (omega arith) (omega arith))
+
+drop-same : {A : Type 0} (n m : ℕ) (z : A) → drop n (replicate m z) ≡ replicate (m - n) z
+drop-same {A} zero m z = let e : m ≡ m - 0 = omega arith in ap (λ (k : ℕ). replicate k z) e
+drop-same {A} (suc n) zero z = let e : 0 ≡ 0 - suc n = omega arith in ap (λ (k : ℕ). replicate k z) e
+drop-same {A} (suc n) (suc m) z = let e : m - n ≡ suc m - suc n = omega arith in drop-same n m z ∙ ap (λ (k : ℕ). replicate k z) e
+
+thresholds-of : (n : ℕ) (xs : List ℕ) (zs : List ℤ) → n ≤ length zs → map threshold (slots xs zs n) ≡ take n xs
+unfolding paired
+thresholds-of zero xs zs k = refl
+thresholds-of (suc n) [] zs k = refl
+thresholds-of (suc n) (x ∷ xs) [] k = absurd (none k)
+  where
+    none : {n : ℕ} → suc n ≤ 0 → ⊥
+    none l = omega arith
+thresholds-of (suc n) (x ∷ xs) (z ∷ zs) k = ap (λ (l : List ℕ). x ∷ l) (thresholds-of n xs zs (omega arith))
+
+offsets-of : (n : ℕ) (xs : List ℕ) (zs : List ℤ) → n ≤ length xs → map offset (slots xs zs n) ≡ take n zs
+unfolding paired
+offsets-of zero xs zs h = refl
+offsets-of (suc n) [] zs h = absurd (none h)
+  where
+    none : {n : ℕ} → suc n ≤ 0 → ⊥
+    none l = omega arith
+offsets-of (suc n) (x ∷ xs) [] h = refl
+offsets-of (suc n) (x ∷ xs) (z ∷ zs) h = ap (λ (l : List ℤ). z ∷ l) (offsets-of n xs zs (omega arith))
+
+-- zeros written over by the first n thresholds and offsets
+pub table-is : (xs : List ℕ) (zs : List ℤ) (n : ℕ) → n ≤ length xs → n ≤ length zs
+    → _≡_ {A = LeapTable}
+    (record { thresholds = over (replicate 64 0) xs n; offsets = over (replicate 64 (pos 0)) zs n; len = n })
+    (tableOf (slots xs zs n))
+table-is xs zs n h k =
+    rw (slots-length xs zs n h k, thresholds-of n xs zs k, offsets-of n xs zs h, ← drop-same {A = ℕ} n 64 0, ← drop-same n 64 (pos 0))

@@ -1,0 +1,93 @@
+-- The offset in force is that of the last entry at or below the reading, or of the first.
+use mathlib.Core.Path.{_≡_, refl, sym, ap, _∙_}
+use mathlib.Core.Bool.{Bool, true, false, cond}
+use mathlib.Core.List.{List, [], _∷_}
+use Prim.Native.Nat.{ℕ, zero, suc, _+_, _-_, _≤_, _<_}
+use native.Mathlib.Omega.{arith}
+use borrow.Author.Tests.{le-leb, lt-leb, lt-ltb, le-ltb}
+use lib.ListN.{length, getD}
+use lib.IntN.{ℤ, pos}
+use Rattle.tables.specs.Entries.{Entry, threshold, offset, entry, valid, lastUpTo, offsetAt}
+use Rattle.tables.specs.Slots.{slots}
+use Rattle.tables.specs.Search.{Rises, Passed}
+use Rattle.tables.proofs.FirstSlots.{slots-length, slot-is}
+use Rattle.tables.proofs.Neighbours.{rises-by}
+
+-- the first k entries are at or below t, and the rest above it
+pub record Reached (es : List Entry) (d : Entry) (t k : ℕ) : Type 0 where
+  pub within : k ≤ length es
+  pub below : (i : ℕ) → i < k → threshold (getD es i d) ≤ t
+  pub above : (i : ℕ) → k ≤ i → i < length es → t < threshold (getD es i d)
+
+module _ (t : ℕ) where
+  found : (k : ℕ) (f d : Entry) (es : List Entry) → Reached es d t k → lastUpTo t f es ≡ getD (f ∷ es) k d
+  unfolding lastUpTo
+  found zero f d [] r = refl
+  found (suc k) f d [] r = absurd (none (r .within))
+    where
+      none : {k : ℕ} → suc k ≤ 0 → ⊥
+      none l = omega arith
+  found zero f d (e ∷ es) r =
+      rw (lt-leb (threshold e) t (r .above 0 (omega arith) (omega arith)))
+      (found zero f d es
+      (record { within = omega arith; below = λ i l. absurd (none l); above = λ i l l′. r .above (suc i) (omega arith) (omega arith) }))
+    where
+      none : {i : ℕ} → i < 0 → ⊥
+      none l = omega arith
+  found (suc k) f d (e ∷ es) r =
+      let w = r .within in
+      rw (le-leb (threshold e) t (r .below 0 (omega arith)))
+      (found k e d es
+      (record { within = omega arith; below = λ i l. r .below (suc i) (omega arith); above = λ i l l′. r .above (suc i) (omega arith) (omega arith) }))
+
+  -- the entry before the first that is above, or the first entry
+  pub in-force : (k : ℕ) (d : Entry) (es : List Entry) → 0 < length es → Reached es d t k → offsetAt es t ≡ offset (getD es (k - 1) d)
+  unfolding offsetAt
+  in-force k d [] n r = absurd (none n)
+    where
+      none : 0 < 0 → ⊥
+      none l = omega arith
+  in-force zero d (e ∷ es) n r = rw (lt-ltb t (threshold e) (r .above 0 (omega arith) (omega arith)))
+  in-force (suc k) d (e ∷ es) n r =
+      let s : suc k - 1 ≡ k = omega arith in
+      rw (le-ltb t (threshold e) (r .below 0 (omega arith)), s) (ap offset (found (suc k) e d (e ∷ es) r))
+
+-- what the search counts is the place
+module _ (xs : List ℕ) (zs : List ℤ) (n : ℕ) (h : n ≤ length xs) (h′ : n ≤ length zs) where
+  abbrev es : List Entry
+  es = slots xs zs n
+
+  abbrev d : Entry
+  d = entry 0 (pos 0)
+
+  at : (i : ℕ) → i < n → threshold (getD es i d) ≡ getD xs i 0
+  at i l = ap threshold (slot-is xs zs n i d l h h′)
+
+  pub rises : valid es ≡ true → Rises xs n
+  rises v = record {
+    rises = λ i j l l′.
+        let e : suc i + (j - suc i) ≡ j = omega arith in
+        let n-is = slots-length xs zs n h h′ in
+        let r = rises-by es d v (j - suc i) i (omega arith) in
+        rw (← at i (omega arith), ← at j l′) (rw e at r);
+  }
+
+  reached : (t k : ℕ) → Passed xs n t k → Reached es d t k
+  reached t k p =
+      let n-is = slots-length xs zs n h h′ in
+      let w = p .within in
+      record {
+        within = omega arith;
+        below = λ i l. rw (at i (omega arith)) (p .below i l);
+        above = λ i l l′. rw (at i (omega arith)) (p .above i l (omega arith));
+      }
+
+  pub offset-is : (t k : ℕ) → 0 < n → Passed xs n t k → offsetAt es t ≡ getD zs (k - 1) (pos 0)
+  offset-is t k p q =
+      let n-is = slots-length xs zs n h h′ in
+      let w = q .within in
+      in-force t k d es (omega arith) (reached t k q) ∙ ap offset (slot-is xs zs n (k - 1) d (omega arith) h h′)
+
+pub none-in-force : (t : ℕ) → offsetAt [] t ≡ pos 19
+unfolding offsetAt
+none-in-force t = refl

@@ -1,0 +1,16 @@
+pub mod FirstSlots
+pub mod Integers
+pub mod Neighbours
+pub mod Scanned
+pub mod RefusalNumbers
+pub mod InForce
+pub mod Halving
+pub mod Filled
+pub mod Joining
+pub mod Checked
+pub mod Growing
+pub mod Tested
+pub mod Extensions
+pub mod Lookups
+pub mod Tells
+pub mod Calls

@@ -1,0 +1,64 @@
+-- A lookup in a valid list answers by the last entry at or below the reading.
+use mathlib.Core.Path.{_≡_, refl, sym, ap, _∙_}
+use mathlib.Core.Bool.{true}
+use mathlib.Core.List.{List, []}
+use mathlib.Core.Option.{some}
+use Prim.Native.Nat.{ℕ, suc, _+_, _-_, _≤_, _<_}
+use native.Mathlib.Omega.{arith}
+use native.Mathlib.Decide.{decLt}
+use lib.ListN.{length, getD, getElem?}
+use lib.IntN.{pos}
+use Rattle.tables.specs.Entries.{Entry, threshold, offset, entry, valid, offsetAt}
+use Rattle.tables.specs.Promises.{Lookup}
+use Rattle.tables.proofs.FirstSlots.{some-at}
+use Rattle.tables.proofs.Neighbours.{rises-by}
+use Rattle.tables.proofs.InForce.{Reached, in-force, none-in-force}
+use Rattle.tables.proofs.Tested.{in-range, at-place}
+
+module _ (es : List Entry) (t : ℕ) (v : valid es ≡ true) where
+  abbrev d : Entry
+  d = entry 0 (pos 0)
+
+  rises : (i j : ℕ) → i < j → j < length es → threshold (getD es i d) < threshold (getD es j d)
+  rises i j l l′ =
+      let e : suc i + (j - suc i) ≡ j = omega arith in
+      rw e at (rises-by es d v (j - suc i) i (omega arith))
+
+  -- a reading below the first threshold is below all
+  below-all : (e : Entry) → getElem? es 0 ≡ some e → t < threshold e → Reached es d t 0
+  below-all e h l = record { within = omega arith; below = λ i b. absurd (none b); above = λ i a b. go i b (decLt 0 i) }
+    where
+      none : {i : ℕ} → i < 0 → ⊥
+      none l = omega arith
+
+      first : t < threshold (getD es 0 d)
+      first = rw (at-place es 0 e d h) l
+
+      go : (i : ℕ) → i < length es → Dec (0 < i) → t < threshold (getD es i d)
+      go i b (yes p) = omega (arith, rises 0 i p b, first)
+      go i b (no n) = let z : i ≡ 0 = omega (arith, n) in rw z first
+
+  up-to : (k : ℕ) (e : Entry) → getElem? es k ≡ some e → threshold e ≤ t
+      → ((j : ℕ) (f : Entry) → k < j → getElem? es j ≡ some f → t < threshold f) → Reached es d t (suc k)
+  up-to k e h l later = record {
+    within = in-range es k e d h;
+    below = λ i b. go i (decLt i k) b;
+    above = λ i a b. later i (getD es i d) a (some-at es i d b);
+  }
+    where
+      here : threshold (getD es k d) ≤ t
+      here = rw (at-place es k e d h) l
+
+      go : (i : ℕ) → Dec (i < k) → i < suc k → threshold (getD es i d) ≤ t
+      go i (yes p) b = omega (arith, rises i k p (in-range es k e d h), here)
+      go i (no n) b = let z : i ≡ k = omega (arith, n) in rw z here
+
+  pub looks-up : Lookup es t
+  looks-up = record {
+    none = λ z. rw z (none-in-force t);
+    before = λ e h l. in-force t 0 d es (in-range es 0 e d h) (below-all e h l) ∙ ap offset (at-place es 0 e d h);
+    last = λ k e h l later.
+        let r = in-range es k e d h in
+        let s : suc k - 1 ≡ k = omega arith in
+        (rw s at (in-force t (suc k) d es (omega arith) (up-to k e h l later))) ∙ ap offset (at-place es k e d h);
+  }

@@ -1,0 +1,120 @@
+-- Lists of leap-second entries: which are valid, which offset is in force, and how they grow.
+use mathlib.Core.Bool.{Bool, true, false, cond, _&&_}
+use mathlib.Core.List.{List, [], _∷_, _++_}
+use mathlib.Core.Option.{Option, none, some}
+use Prim.Native.Nat.{ℕ, _+_, _*_}
+use lib.Dec.{ltb, leb, eqb}
+use lib.ListN.{length}
+use lib.IntN.{ℤ, pos, negsuc, _+ℤ_}
+use Rattle.refusals.specs.Outcome.{Outcome, answered, refused}
+use Rattle.tables.specs.declared.LeapEntry.{LeapEntry}
+
+-- from the TAI reading `threshold e` on, in nanoseconds, TAI is `offset e` seconds ahead of UTC
+abbrev pub Entry : Type 0
+Entry = LeapEntry
+
+abbrev pub threshold : Entry → ℕ
+threshold e = e .«tai_nanos»
+
+abbrev pub offset : Entry → ℤ
+offset e = e .«tai_minus_utc»
+
+abbrev pub entry : ℕ → ℤ → Entry
+entry t n = record { «tai_nanos» = t; «tai_minus_utc» = n }
+
+abbrev pub equal : ℤ → ℤ → Bool
+equal (pos a) (pos b) = eqb a b
+equal (pos a) (negsuc b) = false
+equal (negsuc a) (pos b) = false
+equal (negsuc a) (negsuc b) = eqb a b
+
+-- each entry after the first passes the test with the one before it
+unfoldable pub neighbours : (Entry → Entry → Bool) → List Entry → Bool
+neighbours test [] = true
+neighbours test (p ∷ []) = true
+neighbours test (p ∷ e ∷ es) = test p e && neighbours test (e ∷ es)
+
+-- the threshold is above the one before, and the offset is one more
+abbrev pub follows : Entry → Entry → Bool
+follows p e = ltb (threshold p) (threshold e) && equal (offset e) (offset p +ℤ pos 1)
+
+abbrev pub valid : List Entry → Bool
+valid es = neighbours follows es
+
+-- a day of 86,400 s, in nanoseconds
+abbrev pub day : ℕ
+day = 86_400 * 1_000_000_000
+
+abbrev pub aDayOn : Entry → Entry → Bool
+aDayOn p e = leb (threshold p + day) (threshold e)
+
+abbrev pub begins : List Entry → Bool
+begins [] = false
+begins (e ∷ es) = eqb (threshold e) 0 && equal (offset e) (pos 19)
+
+-- at most 64 entries, valid, not empty, begins (0, 19), and each later threshold is at least a day above the one before
+abbrev pub regular : List Entry → Bool
+regular es = leb (length es) 64 && valid es && begins es && neighbours aDayOn es
+
+-- the last entry with threshold ≤ t, and `found` where there is none
+unfoldable pub lastUpTo : ℕ → Entry → List Entry → Entry
+lastUpTo t found [] = found
+lastUpTo t found (e ∷ es) = lastUpTo t (cond (leb (threshold e) t) e found) es
+
+-- the offset in force at a TAI reading: 19 if there is no entry, the first offset below the first threshold,
+-- else that of the last entry with threshold ≤ t
+unfoldable pub offsetAt : List Entry → ℕ → ℤ
+offsetAt [] t = pos 19
+offsetAt (e ∷ es) t = cond (ltb t (threshold e)) (offset e) (offset (lastUpTo t e (e ∷ es)))
+
+-- the last entry of a list, and `e` where it is empty
+unfoldable pub lastOr : Entry → List Entry → Entry
+lastOr e [] = e
+lastOr e (f ∷ fs) = lastOr f fs
+
+-- the current offset: 19 if there is no entry
+unfoldable pub currentOffset : List Entry → ℤ
+currentOffset [] = pos 19
+currentOffset (e ∷ es) = offset (lastOr e es)
+
+-- the last threshold; nothing for no entry or one
+unfoldable pub lastUpdate : List Entry → Option ℕ
+lastUpdate [] = none
+lastUpdate (e ∷ []) = none
+lastUpdate (e ∷ f ∷ fs) = some (threshold (lastOr f fs))
+
+-- why an entry cannot follow another, 3, 7, 4 in that order; 0 where it can
+abbrev pub stepRefusal : Entry → Entry → ℕ
+stepRefusal p e =
+    cond (leb (threshold e) (threshold p)) 3
+    (cond (equal (offset p) (pos 2_147_483_647)) 7
+    (cond (equal (offset e) (offset p +ℤ pos 1)) 0 4))
+
+-- the answer where nothing is refused
+abbrev pub unless : {A : Type 0} → ℕ → A → Outcome A
+unless k a = cond (eqb k 0) (answered a) (refused k)
+
+-- why an entry cannot be joined to a list, 5, then by the last entry; an empty list takes any
+unfoldable pub joinRefusal : List Entry → Entry → ℕ
+joinRefusal [] e = 0
+joinRefusal (p ∷ ps) e = cond (leb 64 (length (p ∷ ps))) 5 (stepRefusal (lastOr p ps) e)
+
+-- extension: the list with the entry joined at its end
+abbrev pub extension : List Entry → Entry → Outcome (List Entry)
+extension es e = unless (joinRefusal es e) (es ++ e ∷ [])
+
+-- the first refusal of an entry by the one before it; 0 where there is none
+unfoldable pub firstRefusal : List Entry → ℕ
+firstRefusal [] = 0
+firstRefusal (p ∷ []) = 0
+firstRefusal (p ∷ e ∷ es) = cond (eqb (stepRefusal p e) 0) (firstRefusal (e ∷ es)) (stepRefusal p e)
+
+-- building from a list: 6, 5, then the first entry refused
+unfoldable pub building : List Entry → Outcome (List Entry)
+building [] = refused 6
+building (e ∷ es) = cond (ltb 64 (length (e ∷ es))) (refused 5) (unless (firstRefusal (e ∷ es)) (e ∷ es))
+
+-- checking a list, which has no length limit: 6, then by neighbours; 0 where it is valid
+unfoldable pub checking : List Entry → ℕ
+checking [] = 6
+checking (e ∷ es) = firstRefusal (e ∷ es)

@@ -1,0 +1,5 @@
+pub mod Entries
+pub mod Slots
+pub mod Search
+pub mod Answers
+pub mod Promises

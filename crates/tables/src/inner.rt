@@ -1,0 +1,174 @@
+// What the calls share: work on lent thresholds and offsets, of which the first n count.
+ghost use mathlib.Core.Path.{_≡_};
+ghost use mathlib.Core.Bool.{true};
+ghost use Prim.Native.Nat.{ℕ, _+_, _≤_, _<_, min};
+ghost use lib.Dec.{eqb};
+ghost use lib.ListN.{length};
+ghost use Rattle.tables.specs.Entries.{stepRefusal, firstRefusal, joinRefusal, offsetAt, valid};
+ghost use Rattle.tables.specs.Slots.{slotAt, slots, validSlots, joinedTo, tableOf};
+ghost use Rattle.tables.specs.Search.{Rises, Passed};
+ghost use Rattle.tables.specs.Answers.{takenIn};
+use crate::LeapEntry;
+use crate::LeapTable;
+use crate::Taken;
+use refusals::Refusal;
+
+// The largest offset, after which no entry can follow.
+const LARGEST_OFFSET: i32 = 2147483647;
+
+// The offset in force at every reading of a table with no entry, that of the GPS epoch.
+pub const OFFSET_OF_NO_ENTRY: i32 = 19;
+
+// The entry in slot i.
+pub fn slot<'a>(thresholds: &'a [u64], offsets: &'a [i32], i: usize) -> LeapEntry
+    requires { ⌜ i < length (now thresholds) ⌝ }
+    requires { ⌜ i < length (now offsets) ⌝ }
+    ensures { λ r. ⌜ r ≡ slotAt (now (thresholds .entry)) (now (offsets .entry)) i ⌝ }
+{
+    LeapEntry {
+        tai_nanos: thresholds[i],
+        tai_minus_utc: offsets[i],
+    }
+}
+
+// Whether an entry can follow another.
+pub fn step(before: LeapEntry, next: LeapEntry) -> Taken
+    ensures { λ r. ⌜ takenIn r ≡ stepRefusal before next ⌝ }
+{
+    if next.tai_nanos <= before.tai_nanos {
+        return Taken::Refused(Refusal::NotStrictlyAscending);
+    }
+    let offset = before.tai_minus_utc;
+    if offset == LARGEST_OFFSET {
+        return Taken::Refused(Refusal::OffsetOverflow);
+    }
+    let one_more = offset + 1;
+    let given = next.tai_minus_utc;
+    if given == one_more {
+        Taken::Done
+    } else {
+        Taken::Refused(Refusal::NonUnitIncrement)
+    }
+}
+
+// The first refusal of an entry by the one before it. There is none exactly if the entries are valid.
+pub fn first_refusal<'a>(thresholds: &'a [u64], offsets: &'a [i32], n: usize) -> Taken
+    requires { ⌜ n ≤ length (now thresholds) ⌝ }
+    requires { ⌜ n ≤ length (now offsets) ⌝ }
+    ensures first { λ r. ⌜ takenIn r ≡ firstRefusal (slots (now (thresholds .entry)) (now (offsets .entry)) n) ⌝ }
+    ensures tells { λ r. ⌜ eqb (takenIn r) 0 ≡ valid (slots (now (thresholds .entry)) (now (offsets .entry)) n) ⌝ }
+{
+    let mut i: usize = 1;
+    while i < n {
+        let before = slot(thresholds, offsets, i - 1);
+        let next = slot(thresholds, offsets, i);
+        if let Taken::Refused(why) = step(before, next) {
+            return Taken::Refused(why);
+        }
+        i += 1;
+    }
+    Taken::Done
+}
+
+// Whether the first n slots are those of a valid table.
+pub fn is_valid<'a>(thresholds: &'a [u64; 64], offsets: &'a [i32; 64], n: usize) -> bool
+    ensures { λ r. ⌜ r ≡ validSlots (now (thresholds .entry)) (now (offsets .entry)) n ⌝ }
+{
+    if 64 < n {
+        return false;
+    }
+    match first_refusal(thresholds, offsets, n) {
+        Taken::Done => true,
+        Taken::Refused(_) => false,
+    }
+}
+
+// How many of the first n thresholds are at or below a TAI reading, by halves: 7 probes for 64 of them.
+pub fn passed(thresholds: &[u64], n: usize, tai: u64) -> usize
+    requires { ⌜ n ≤ length (now thresholds) ⌝ }
+    requires { ⌜ Rises (now thresholds) n ⌝ }
+    ensures { λ r. ⌜ Passed (now (thresholds .entry)) n tai r ⌝ }
+{
+    let mut low: usize = 0;
+    let mut high: usize = n;
+    while low < high {
+        let middle = low + (high - low) / 2;
+        if thresholds[middle] <= tai {
+            low = middle + 1;
+        } else {
+            high = middle;
+        }
+    }
+    low
+}
+
+// The offset in force at a TAI reading.
+pub fn offset_at<'a>(thresholds: &'a [u64], offsets: &'a [i32], n: usize, tai: u64) -> i32
+    requires { ⌜ n ≤ length (now thresholds) ⌝ }
+    requires { ⌜ n ≤ length (now offsets) ⌝ }
+    requires { ⌜ valid (slots (now thresholds) (now offsets) n) ≡ true ⌝ }
+    ensures { λ r. ⌜ r ≡ offsetAt (slots (now (thresholds .entry)) (now (offsets .entry)) n) tai ⌝ }
+{
+    if n == 0 {
+        return OFFSET_OF_NO_ENTRY;
+    }
+    let k = passed(thresholds, n, tai);
+    if k == 0 { offsets[0] } else { offsets[k - 1] }
+}
+
+// Whether an entry can be joined to the first n.
+pub fn joins<'a>(thresholds: &'a [u64], offsets: &'a [i32], n: usize, entry: LeapEntry) -> Taken
+    requires { ⌜ n ≤ length (now thresholds) ⌝ }
+    requires { ⌜ n ≤ length (now offsets) ⌝ }
+    ensures { λ r. ⌜ takenIn r ≡ joinRefusal (slots (now (thresholds .entry)) (now (offsets .entry)) n) entry ⌝ }
+{
+    if n == 0 {
+        return Taken::Done;
+    }
+    if 64 <= n {
+        return Taken::Refused(Refusal::BufferFull);
+    }
+    step(slot(thresholds, offsets, n - 1), entry)
+}
+
+// The table with an entry in the slot at its length.
+pub fn joined(table: LeapTable, entry: LeapEntry) -> LeapTable
+    requires { ⌜ table .len < 64 ⌝ }
+    ensures { λ r. ⌜ r ≡ joinedTo table entry ⌝ }
+{
+    let at = table.len;
+    let mut grown = table;
+    grown.thresholds[at] = entry.tai_nanos;
+    let offset = entry.tai_minus_utc;
+    grown.offsets[at] = offset;
+    grown.len = at + 1;
+    grown
+}
+
+// The table of the first n thresholds and offsets.
+pub fn table_of<'a>(thresholds: &'a [u64], offsets: &'a [i32], n: usize) -> LeapTable
+    requires { ⌜ n ≤ 64 ⌝ }
+    requires { ⌜ n ≤ length (now thresholds) ⌝ }
+    requires { ⌜ n ≤ length (now offsets) ⌝ }
+    ensures { λ r. ⌜ r ≡ tableOf (slots (now (thresholds .entry)) (now (offsets .entry)) n) ⌝ }
+{
+    let mut kept_thresholds = [0u64; 64];
+    let mut kept_offsets = [0i32; 64];
+    let mut i: usize = 0;
+    while i < n {
+        kept_thresholds[i] = thresholds[i];
+        kept_offsets[i] = offsets[i];
+        i += 1;
+    }
+    LeapTable {
+        thresholds: kept_thresholds,
+        offsets: kept_offsets,
+        len: n,
+    }
+}
+
+pub fn shorter(a: usize, b: usize) -> usize
+    ensures { λ r. ⌜ r ≡ min a b ⌝ }
+{
+    if a < b { a } else { b }
+}

@@ -1,0 +1,61 @@
+// Leap-second tables, after leap.rs: building, extension, and the offset TAI minus UTC in force at a TAI reading.
+// A caller may make a table by hand, so every call with a table tests it first, and refuses 8 where it is not valid.
+pub mod inner;
+pub mod table;
+
+use refusals::Refusal;
+
+// From the TAI reading `tai_nanos` on, TAI is `tai_minus_utc` seconds ahead of UTC.
+pub struct LeapEntry {
+    pub tai_nanos: u64,
+    pub tai_minus_utc: i32,
+}
+
+// Up to 64 entries: those in the first `len` slots.
+pub struct LeapTable {
+    pub thresholds: [u64; 64],
+    pub offsets: [i32; 64],
+    pub len: usize,
+}
+
+// Whether entries were taken, or why not.
+pub enum Taken {
+    Done,
+    Refused(Refusal),
+}
+
+// The table afterwards, beside the answer.
+pub struct Extension {
+    pub answer: Taken,
+    pub table: LeapTable,
+}
+
+pub enum LengthAnswer {
+    Length(usize),
+    Refused(Refusal),
+}
+
+pub enum EmptyAnswer {
+    Empty(bool),
+    Refused(Refusal),
+}
+
+// The entry at a place, or nothing past the last one.
+pub enum EntryAnswer {
+    Entry(LeapEntry),
+    Nothing,
+    Refused(Refusal),
+}
+
+// The TAI nanoseconds of the last event, or nothing.
+pub enum UpdateAnswer {
+    At(u64),
+    Nothing,
+    Refused(Refusal),
+}
+
+// TAI minus UTC in seconds.
+pub enum OffsetAnswer {
+    Offset(i32),
+    Refused(Refusal),
+}

@@ -1,0 +1,166 @@
+// The calls on a table. Each gives 8 first where the table is not valid.
+ghost use mathlib.Core.Path.{_≡_};
+ghost use mathlib.Core.List.{[]};
+ghost use lib.Dec.{eqb};
+ghost use lib.ListN.{length, getElem?};
+ghost use Rattle.refusals.specs.Number.{numberOf};
+ghost use Rattle.refusals.specs.Outcome.{answered};
+ghost use Rattle.tables.specs.Entries.{offsetAt, currentOffset, lastUpdate};
+ghost use Rattle.tables.specs.Slots.{paired, entriesOf, ofValid, tableOf, extended, built};
+ghost use Rattle.tables.specs.Answers.{extensionIn, lengthIn, emptyIn, entryIn, updateIn, offsetIn};
+use crate::EmptyAnswer;
+use crate::EntryAnswer;
+use crate::Extension;
+use crate::LeapEntry;
+use crate::LeapTable;
+use crate::LengthAnswer;
+use crate::OffsetAnswer;
+use crate::Taken;
+use crate::UpdateAnswer;
+use crate::inner;
+use refusals::Refusal;
+
+impl LeapTable {
+    // The table with no entry.
+    pub fn new() -> Self
+        ensures { λ r. ⌜ r ≡ tableOf [] ⌝ }
+    {
+        LeapTable {
+            thresholds: [0u64; 64],
+            offsets: [0i32; 64],
+            len: 0,
+        }
+    }
+
+    // The table of thresholds and offsets side by side, up to the shorter length.
+    pub fn from_lists<'a>(thresholds: &'a [u64], offsets: &'a [i32]) -> Extension
+        ensures { λ r. ⌜ extensionIn r ≡ built (paired (now (thresholds .entry)) (now (offsets .entry))) ⌝ }
+    {
+        let n = inner::shorter(thresholds.len(), offsets.len());
+        if n == 0 {
+            return unbuilt(Refusal::EmptyTable);
+        }
+        if 64 < n {
+            return unbuilt(Refusal::BufferFull);
+        }
+        match inner::first_refusal(thresholds, offsets, n) {
+            Taken::Refused(why) => unbuilt(why),
+            Taken::Done => Extension {
+                answer: Taken::Done,
+                table: inner::table_of(thresholds, offsets, n),
+            },
+        }
+    }
+
+    // The table with an entry joined at its end; on a refusal the table as it came.
+    pub fn try_extend(self, entry: LeapEntry) -> Extension
+        ensures { λ r. ⌜ extensionIn r ≡ extended self entry ⌝ }
+    {
+        let n = self.len;
+        if !inner::is_valid(&self.thresholds, &self.offsets, n) {
+            return refused(Refusal::BadTable, self);
+        }
+        match inner::joins(&self.thresholds, &self.offsets, n, entry) {
+            Taken::Refused(why) => refused(why, self),
+            Taken::Done => Extension {
+                answer: Taken::Done,
+                table: inner::joined(self, entry),
+            },
+        }
+    }
+
+    // The number of entries.
+    pub fn len(self) -> LengthAnswer
+        ensures { λ r. ⌜ lengthIn r ≡ ofValid self (answered (length (entriesOf self))) ⌝ }
+    {
+        let n = self.len;
+        if inner::is_valid(&self.thresholds, &self.offsets, n) {
+            LengthAnswer::Length(n)
+        } else {
+            LengthAnswer::Refused(Refusal::BadTable)
+        }
+    }
+
+    pub fn is_empty(self) -> EmptyAnswer
+        ensures { λ r. ⌜ emptyIn r ≡ ofValid self (answered (eqb (length (entriesOf self)) 0)) ⌝ }
+    {
+        let n = self.len;
+        if inner::is_valid(&self.thresholds, &self.offsets, n) {
+            EmptyAnswer::Empty(n == 0)
+        } else {
+            EmptyAnswer::Refused(Refusal::BadTable)
+        }
+    }
+
+    // The entry at a place, counted from 0.
+    pub fn entry_at(self, place: usize) -> EntryAnswer
+        ensures { λ r. ⌜ entryIn r ≡ ofValid self (answered (getElem? (entriesOf self) place)) ⌝ }
+    {
+        let n = self.len;
+        if !inner::is_valid(&self.thresholds, &self.offsets, n) {
+            return EntryAnswer::Refused(Refusal::BadTable);
+        }
+        if place < n {
+            EntryAnswer::Entry(inner::slot(&self.thresholds, &self.offsets, place))
+        } else {
+            EntryAnswer::Nothing
+        }
+    }
+
+    // The threshold of the last event: nothing where there is at most the first entry.
+    pub fn last_update(self) -> UpdateAnswer
+        ensures { λ r. ⌜ updateIn r ≡ ofValid self (answered (lastUpdate (entriesOf self))) ⌝ }
+    {
+        let n = self.len;
+        if !inner::is_valid(&self.thresholds, &self.offsets, n) {
+            return UpdateAnswer::Refused(Refusal::BadTable);
+        }
+        if 1 < n {
+            UpdateAnswer::At(self.thresholds[n - 1])
+        } else {
+            UpdateAnswer::Nothing
+        }
+    }
+
+    // The offset of the last entry, or 19.
+    pub fn current_tai_minus_utc(self) -> OffsetAnswer
+        ensures { λ r. ⌜ offsetIn r ≡ ofValid self (answered (currentOffset (entriesOf self))) ⌝ }
+    {
+        let n = self.len;
+        if !inner::is_valid(&self.thresholds, &self.offsets, n) {
+            return OffsetAnswer::Refused(Refusal::BadTable);
+        }
+        if n == 0 {
+            OffsetAnswer::Offset(inner::OFFSET_OF_NO_ENTRY)
+        } else {
+            OffsetAnswer::Offset(self.offsets[n - 1])
+        }
+    }
+
+    // The offset in force at a TAI reading.
+    pub fn tai_minus_utc_at(self, tai: u64) -> OffsetAnswer
+        ensures { λ r. ⌜ offsetIn r ≡ ofValid self (answered (offsetAt (entriesOf self) tai)) ⌝ }
+    {
+        let n = self.len;
+        if inner::is_valid(&self.thresholds, &self.offsets, n) {
+            OffsetAnswer::Offset(inner::offset_at(&self.thresholds, &self.offsets, n, tai))
+        } else {
+            OffsetAnswer::Refused(Refusal::BadTable)
+        }
+    }
+}
+
+// A refusal, with the table as it is handed in.
+fn refused(why: Refusal, table: LeapTable) -> Extension
+    ensures { λ r. ⌜ extensionIn r ≡ (numberOf why, table) ⌝ }
+{
+    let answer = Taken::Refused(why);
+    Extension { answer, table }
+}
+
+// A refused building: the table with no entry.
+fn unbuilt(why: Refusal) -> Extension
+    ensures { λ r. ⌜ extensionIn r ≡ (numberOf why, tableOf []) ⌝ }
+{
+    refused(why, LeapTable::new())
+}

@@ -1,0 +1,98 @@
+//! One call as both sides give it, and the form of its entry in the table.
+
+use crate::number::Kind;
+
+/// A named input or result of a call.
+pub type Named = (&'static str, Kind);
+
+/// The crate's side of an answer: the results, or the number of the refusal.
+pub type Outcome = Result<Vec<i128>, u32>;
+
+/// What comes back over the C boundary.
+#[derive(PartialEq)]
+pub struct Written {
+    /// The number of the refusal, 0 for an answer.
+    pub refusal: u32,
+    pub results: Vec<i128>,
+    /// A byte beside the places of the results was changed.
+    pub spilled: bool,
+}
+
+pub struct Call {
+    pub name: &'static str,
+    pub inputs: &'static [Named],
+    pub results: &'static [Named],
+    /// The declaration that the header has to have, without the semicolon.
+    pub prototype: String,
+    /// The refusal that the rules give where the crate panics; `None` where it must not panic.
+    pub panic_is: Option<u32>,
+    pub original: fn(&[i128]) -> Outcome,
+    pub port: fn(&[i128]) -> Written,
+}
+
+impl Call {
+    /// What the port has to write for a crate's outcome: the results, or the refusal and zeros.
+    pub fn due(&self, outcome: Outcome) -> Written {
+        match outcome {
+            Ok(results) => Written { refusal: 0, results, spilled: false },
+            Err(refusal) => Written { refusal, results: vec![0; self.results.len()], spilled: false },
+        }
+    }
+}
+
+/// The C declaration of a call whose inputs and results are numbers.
+pub fn prototype(name: &str, inputs: &[Named], results: &[Named]) -> String {
+    let inputs = inputs.iter().map(|(name, kind)| format!("{} {name}", kind.c_name));
+    let results = results.iter().map(|(name, kind)| format!("{} *{name}", kind.c_name));
+    let parameters: Vec<String> = inputs.chain(results).collect();
+    format!("uint32_t plaitgate_{name}({})", parameters.join(", "))
+}
+
+/// An entry of the table: `call!("name", (inputs) -> (results), what the crate answers)`, where the last part
+/// uses the inputs by name and may be of any type that has an `Outcome` (original.rs). The name may be given
+/// in parts. `panic is N` at the end names the refusal that stands for a panic of the crate.
+#[macro_export]
+macro_rules! call {
+    ($($part:literal)+, ($($input:ident: $given:ty),*) -> ($($result:ident: $written:ty),*), $original:expr) => {
+        $crate::call!(@entry None, $($part)+, ($($input: $given),*) -> ($($result: $written),*), $original)
+    };
+    ($($part:literal)+, ($($input:ident: $given:ty),*) -> ($($result:ident: $written:ty),*), $original:expr, panic is $refusal:literal) => {
+        $crate::call!(@entry Some($refusal), $($part)+, ($($input: $given),*) -> ($($result: $written),*), $original)
+    };
+    (@entry $panic_is:expr, $($part:literal)+, ($($input:ident: $given:ty),*) -> ($($result:ident: $written:ty),*), $original:expr) => {{
+        use $crate::number::{Number, Place};
+        extern "C" {
+            #[link_name = concat!("plaitgate_", $($part),+)]
+            fn exported($($input: $given,)* $($result: *mut $written),*) -> u32;
+        }
+        fn original(inputs: &[i128]) -> $crate::call::Outcome {
+            let [$($input),*] = *inputs else { unreachable!("another number of inputs was drawn") };
+            $(let $input = <$given>::narrow($input);)*
+            $crate::original::Answer::outcome($original)
+        }
+        fn port(inputs: &[i128]) -> $crate::call::Written {
+            let [$($input),*] = *inputs else { unreachable!("another number of inputs was drawn") };
+            $(let $input = <$given>::narrow($input);)*
+            $(let mut $result = Place::new();)*
+            // SAFETY: each place outlives the call and has room for its number
+            let refusal = unsafe { exported($($input,)* $($result.address::<$written>()),*) };
+            $crate::call::Written {
+                refusal,
+                results: vec![$($result.value::<$written>()),*],
+                spilled: false $(|| $result.spilled::<$written>())*,
+            }
+        }
+        const NAME: &str = concat!($($part),+);
+        const INPUTS: &[$crate::call::Named] = &[$((stringify!($input), <$given>::KIND)),*];
+        const RESULTS: &[$crate::call::Named] = &[$((stringify!($result), <$written>::KIND)),*];
+        $crate::call::Call {
+            name: NAME,
+            inputs: INPUTS,
+            results: RESULTS,
+            prototype: $crate::call::prototype(NAME, INPUTS, RESULTS),
+            panic_is: $panic_is,
+            original,
+            port,
+        }
+    }};
+}

@@ -1,0 +1,95 @@
+//! The table of all calls that are compared, an entry each. A call's number in the recorded list is its place
+//! here, from 1: a new call goes to the end.
+
+use crate::call;
+use crate::call::Call;
+use gnss_time::{Duration, DurationParts, Glonass, Gps, Tai, Time, Utc};
+
+/// The calls that every scale has.
+macro_rules! scale_calls {
+    ($scale:ty, $name:literal) => {
+        [
+            call!($name "_from_nanos", (nanos: u64) -> (count: u64), <Time<$scale>>::from_nanos(nanos)),
+            call!($name "_as_nanos", (count: u64) -> (nanos: u64), at::<$scale>(count).as_nanos()),
+            call!($name "_checked_from_seconds", (seconds: u64) -> (count: u64),
+                <Time<$scale>>::checked_from_seconds(seconds)),
+            call!($name "_as_seconds", (count: u64) -> (seconds: u64), at::<$scale>(count).as_seconds()),
+            call!($name "_as_parts", (count: u64) -> (seconds: u64, nanos: u32), at::<$scale>(count).as_parts()),
+            call!($name "_checked_add", (count: u64, duration: i64) -> (sum: u64),
+                at::<$scale>(count).checked_add(Duration::from_nanos(duration))),
+            call!($name "_checked_sub_duration", (count: u64, duration: i64) -> (difference: u64),
+                at::<$scale>(count).checked_sub_duration(Duration::from_nanos(duration))),
+            call!($name "_saturating_add", (count: u64, duration: i64) -> (sum: u64),
+                at::<$scale>(count).saturating_add(Duration::from_nanos(duration))),
+            call!($name "_saturating_sub_duration", (count: u64, duration: i64) -> (difference: u64),
+                at::<$scale>(count).saturating_sub_duration(Duration::from_nanos(duration))),
+            call!($name "_checked_elapsed", (count: u64, earlier: u64) -> (duration: i64),
+                at::<$scale>(count).checked_elapsed(at(earlier))),
+            call!($name "_limits", () -> (epoch: u64, min: u64, max: u64, nanos_per_year: u64), [
+                <Time<$scale>>::EPOCH.as_nanos(),
+                <Time<$scale>>::MIN.as_nanos(),
+                <Time<$scale>>::MAX.as_nanos(),
+                <Time<$scale>>::NANOS_PER_YEAR,
+            ]),
+        ]
+    };
+}
+
+pub fn calls() -> Vec<Call> {
+    let mut calls = Vec::new();
+    calls.extend(scale_calls!(Gps, "gps"));
+    calls.extend(scale_calls!(Utc, "utc"));
+    calls.extend(scale_calls!(Glonass, "glonass"));
+    calls.extend(scale_calls!(Tai, "tai"));
+    calls.extend(gps_calls());
+    calls.extend(glonass_calls());
+    calls.extend(unix_calls());
+    calls.extend(duration_calls());
+    calls
+}
+
+fn at<S: gnss_time::TimeScale>(count: u64) -> Time<S> {
+    Time::from_nanos(count)
+}
+
+fn gps_calls() -> [Call; 6] {
+    [
+        call!("gps_from_week_tow", (week: u32, seconds: u64, nanos: u32) -> (count: u64),
+            Time::<Gps>::from_week_tow(week, DurationParts { seconds, nanos })),
+        call!("gps_week", (count: u64) -> (week: u32), at::<Gps>(count).week()),
+        call!("gps_tow_seconds", (count: u64) -> (seconds: u32), at::<Gps>(count).tow_seconds()),
+        call!("gps_sub_second_nanos", (count: u64) -> (nanos: u32), at::<Gps>(count).sub_second_nanos()),
+        call!("gps_to_tai", (count: u64) -> (tai: u64), at::<Gps>(count).to_tai()),
+        call!("gps_from_tai", (tai: u64) -> (count: u64), Time::<Gps>::from_tai(at::<Tai>(tai))),
+    ]
+}
+
+fn glonass_calls() -> [Call; 6] {
+    [
+        call!("glonass_from_day_tod", (day: u32, seconds: u64, nanos: u32) -> (count: u64),
+            Time::<Glonass>::from_day_tod(day, DurationParts { seconds, nanos })),
+        call!("glonass_day", (count: u64) -> (day: u32), at::<Glonass>(count).day()),
+        call!("glonass_tod_seconds", (count: u64) -> (seconds: u32), at::<Glonass>(count).tod_seconds()),
+        call!("glonass_sub_second_nanos", (count: u64) -> (nanos: u32), at::<Glonass>(count).sub_second_nanos()),
+        call!("glonass_day_of_week", (count: u64) -> (weekday: u8), at::<Glonass>(count).day_of_week()),
+        call!("glonass_is_weekend", (count: u64) -> (yes: u8), at::<Glonass>(count).is_weekend()),
+    ]
+}
+
+fn unix_calls() -> [Call; 4] {
+    [
+        call!("utc_from_unix_seconds", (seconds: i64) -> (count: u64), Time::<Utc>::from_unix_seconds(seconds)),
+        call!("utc_from_unix_nanos", (nanos: i64) -> (count: u64), Time::<Utc>::from_unix_nanos(nanos)),
+        call!("utc_as_unix_seconds", (count: u64) -> (seconds: i64), at::<Utc>(count).as_unix_seconds()),
+        call!("utc_as_unix_nanos", (count: u64) -> (nanos: i64), at::<Utc>(count).as_unix_nanos()),
+    ]
+}
+
+fn duration_calls() -> [Call; 3] {
+    [
+        call!("duration_parts_new", (seconds: u64, nanos: u32) -> (parts_seconds: u64, parts_nanos: u32),
+            DurationParts::new(seconds, nanos)),
+        call!("duration_from_nanos", (nanos: i64) -> (duration: i64), Duration::from_nanos(nanos)),
+        call!("duration_as_nanos", (duration: i64) -> (nanos: i64), Duration::from_nanos(duration).as_nanos()),
+    ]
+}

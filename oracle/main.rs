@@ -1,0 +1,85 @@
+//! The oracle: the crate gnss-time and the port in one process, compared call by call.
+//! `oracle/run` builds it and runs it.
+
+mod call;
+mod calls;
+mod compare;
+mod header;
+mod inputs;
+mod number;
+mod original;
+mod record;
+
+use std::process::ExitCode;
+
+const USAGE: &str = "\
+usage: oracle/run [--seed N] [--count N] [--record FILE]
+  --seed N       where the random inputs start (20260101); the same seed gives the same run
+  --count N      random inputs for each call, after all its edges (100000)
+  --record FILE  first write the recorded list of the crate's answers to FILE";
+
+struct Options {
+    seed: u64,
+    count: u64,
+    record: Option<String>,
+}
+
+fn main() -> ExitCode {
+    let Some(options) = options() else {
+        eprintln!("{USAGE}");
+        return ExitCode::from(2);
+    };
+    compare::silence_the_crate();
+    let calls = calls::calls();
+    if let Some(file) = options.record {
+        if let Err(error) = std::fs::write(&file, record::recorded(&calls)) {
+            return failed(&format!("cannot write {file}: {error}"));
+        }
+    }
+    let disagreements = header::disagreements(&calls);
+    if !disagreements.is_empty() {
+        return failed(&format!("include/plaitgate.h and the oracle disagree\n{}", disagreements.join("\n")));
+    }
+    run(&calls, options.seed, options.count)
+}
+
+fn options() -> Option<Options> {
+    let mut options = Options { seed: 20_260_101, count: 100_000, record: None };
+    let mut words = std::env::args().skip(1);
+    while let Some(word) = words.next() {
+        let value = words.next()?;
+        match word.as_str() {
+            "--seed" => options.seed = value.parse().ok()?,
+            "--count" => options.count = value.parse().ok()?,
+            "--record" => options.record = Some(value),
+            _ => return None,
+        }
+    }
+    Some(options)
+}
+
+fn run(calls: &[call::Call], seed: u64, count: u64) -> ExitCode {
+    println!("oracle: seed {seed}, all edges and {count} random inputs for each call");
+    println!("{:<32} {:>11} {:>11} {:>16}", "call", "comparisons", "refusals", "crate panicked");
+    let mut comparisons = 0;
+    let mut differences = 0;
+    for call in calls {
+        let tally = compare::compare(call, seed, count);
+        println!("{:<32} {:>11} {:>11} {:>16}", call.name, tally.comparisons, tally.refusals, tally.panics);
+        for shown in &tally.shown {
+            println!("DIFFERENCE {shown}");
+        }
+        comparisons += tally.comparisons;
+        differences += tally.differences;
+    }
+    if differences > 0 {
+        return failed(&format!("{differences} differences in {comparisons} comparisons"));
+    }
+    println!("oracle: {comparisons} comparisons of {} calls, no difference", calls.len());
+    ExitCode::SUCCESS
+}
+
+fn failed(reason: &str) -> ExitCode {
+    println!("oracle: FAILED: {reason}");
+    ExitCode::FAILURE
+}

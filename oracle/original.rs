@@ -1,0 +1,80 @@
+//! The crate's side: what its types say in numbers, and its errors as the rules number them.
+
+use crate::call::Outcome;
+use crate::number::Number;
+use gnss_time::{Duration, DurationParts, GnssTimeError, Time, TimeScale};
+
+/// An answer of the crate that has an outcome in numbers.
+pub trait Answer {
+    fn outcome(self) -> Outcome;
+}
+
+const OVERFLOW: u32 = 1;
+const INVALID_INPUT: u32 = 2;
+/// An error that the rules have no number for. No call of the port gives it, so it shows as a difference.
+const UNNUMBERED: u32 = u32::MAX;
+
+impl<A: Answer> Answer for Option<A> {
+    fn outcome(self) -> Outcome {
+        self.map_or(Err(OVERFLOW), A::outcome)
+    }
+}
+
+impl<A: Answer> Answer for Result<A, GnssTimeError> {
+    fn outcome(self) -> Outcome {
+        match self {
+            Ok(answer) => answer.outcome(),
+            Err(GnssTimeError::Overflow) => Err(OVERFLOW),
+            Err(GnssTimeError::InvalidInput(_)) => Err(INVALID_INPUT),
+            Err(_) => Err(UNNUMBERED),
+        }
+    }
+}
+
+macro_rules! plain_answers {
+    ($($number:ty)*) => {$(
+        impl Answer for $number {
+            fn outcome(self) -> Outcome {
+                Ok(vec![self.wide()])
+            }
+        }
+    )*};
+}
+
+plain_answers! { u8 u32 u64 i32 i64 }
+
+impl Answer for bool {
+    fn outcome(self) -> Outcome {
+        u8::from(self).outcome()
+    }
+}
+
+impl Answer for (u64, u32) {
+    fn outcome(self) -> Outcome {
+        Ok(vec![self.0.wide(), self.1.wide()])
+    }
+}
+
+impl<const N: usize> Answer for [u64; N] {
+    fn outcome(self) -> Outcome {
+        Ok(self.map(u64::wide).to_vec())
+    }
+}
+
+impl<S: TimeScale> Answer for Time<S> {
+    fn outcome(self) -> Outcome {
+        self.as_nanos().outcome()
+    }
+}
+
+impl Answer for Duration {
+    fn outcome(self) -> Outcome {
+        self.as_nanos().outcome()
+    }
+}
+
+impl Answer for DurationParts {
+    fn outcome(self) -> Outcome {
+        (self.seconds, self.nanos).outcome()
+    }
+}
