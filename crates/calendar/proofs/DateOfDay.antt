@@ -9,10 +9,10 @@ use lib.IntN.{ℤ, pos, subℕ}
 use Rattle.counts.proofs.Difference.{not-below}
 use Rattle.calendar.specs.Calendar.{Date, on, Real, leap, daysIn, dateOf}
 use Rattle.calendar.specs.Formula.{dayOf, fromMarch, monthStart}
-use Rattle.calendar.specs.March.{daysInYears, InYear, InMonth}
+use Rattle.calendar.specs.March.{daysInYears, marchOf, InYear, InMonth}
 use Rattle.calendar.proofs.MarchYears.{year-length, at-most-366}
 use Rattle.calendar.proofs.Months.{start, month-length, february}
-use Rattle.calendar.proofs.Eras.{marchOf, dayNumber, counted}
+use Rattle.calendar.proofs.Eras.{dayNumber, counted}
 use Rattle.calendar.proofs.CalendarTheorems.{date-of-day}
 
 pub within-366 : (z y k : ℕ) → InYear z y k → k < 366

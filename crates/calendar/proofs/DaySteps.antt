@@ -10,11 +10,11 @@ use lib.IntN.{ℤ, pos, sucℤ, predℤ, subℕ, pred-suc}
 use Rattle.counts.proofs.Difference.{not-below}
 use Rattle.calendar.specs.Calendar.{Date, on, Real, leap, daysIn, monthLength, next, prev, unixEpoch}
 use Rattle.calendar.specs.Formula.{dayOf, formula, fromMarch, monthStart}
-use Rattle.calendar.specs.March.{daysInYears}
+use Rattle.calendar.specs.March.{daysInYears, marchOf}
 use Rattle.calendar.proofs.Sums.{one-more, is-natural}
 use Rattle.calendar.proofs.MarchYears.{year-length}
 use Rattle.calendar.proofs.Months.{start, month-length, february, in-year, january}
-use Rattle.calendar.proofs.Eras.{Above, above, same-leap, marchOf, dayNumber, counted}
+use Rattle.calendar.proofs.Eras.{Above, above, same-leap, dayNumber, counted}
 use Rattle.calendar.proofs.DayByDay.{after, prev-real, next-prev}
 
 -- ---- in naturals

@@ -11,7 +11,7 @@ use lib.Signed.{quotZ}
 use Rattle.counts.proofs.Difference.{not-below, below, same, of-naturals, less}
 use Rattle.calendar.specs.Calendar.{divides, leap}
 use Rattle.calendar.specs.Formula.{fromMarch, marchYear, era, yoe, doy, doe, monthStart, formula}
-use Rattle.calendar.specs.March.{daysInYears, liftEras, Lifted}
+use Rattle.calendar.specs.March.{daysInYears, marchOf, liftEras, Lifted}
 use Rattle.calendar.proofs.Sums.{one-less, sum, difference, times}
 use Rattle.calendar.proofs.MarchYears.{of-era, hundreds-fewer}
 
@@ -79,9 +79,6 @@ era-back a = ap (λ (q : ℕ). negℤ (pos q)) up
     up = omega arith
 
 -- days in a natural year up to a day of a month
-abbrev pub marchOf : ℕ → ℕ → ℕ
-marchOf n m = cond (ltb 2 m) n (n - 1)
-
 abbrev pub dayNumber : ℕ → ℕ → ℕ → ℕ
 dayNumber n m d = daysInYears (marchOf n m) + (monthStart (fromMarch m) + d)
 

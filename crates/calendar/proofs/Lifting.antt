@@ -12,10 +12,10 @@ use Rattle.counts.proofs.Difference.{not-below, below, same}
 use Rattle.counts.specs.Units.{daySeconds}
 use Rattle.calendar.specs.Calendar.{Date}
 use Rattle.calendar.specs.Formula.{fromMarch, monthStart, formula, dayOf}
-use Rattle.calendar.specs.March.{daysInYears, liftEras, Lifted}
+use Rattle.calendar.specs.March.{daysInYears, marchOf, liftEras, Lifted}
 use Rattle.calendar.specs.Dates.{daysBetween}
 use Rattle.calendar.proofs.Sums.{difference, times, magnitude}
-use Rattle.calendar.proofs.Eras.{marchOf, dayNumber, counted}
+use Rattle.calendar.proofs.Eras.{dayNumber, counted}
 
 pub record Raised (z : ℤ) : Type 0 where
   pub by : ℕ

@@ -1,11 +1,11 @@
 // The two directions between a date and its day, each one function, and the steps that they are made of.
 // Years begin here on 1 March, so that a leap day is the last of its year: day 0 is 0000-03-01, and month 0 is March.
 ghost use mathlib.Core.Path.{_≡_};
-ghost use Prim.Native.Nat.{_+_, _*_, _<_, _^_};
+ghost use Prim.Native.Nat.{_+_, _*_, _≤_, _<_, _^_};
 ghost use lib.IntN.{pos, subℕ};
 ghost use Rattle.calendar.specs.Calendar.{on, dateOf};
 ghost use Rattle.calendar.specs.Formula.{dayOf, monthStart};
-ghost use Rattle.calendar.specs.March.{daysInYears, InYear, InMonth, liftEras, Lifted};
+ghost use Rattle.calendar.specs.March.{daysInYears, FromMarch, InYear, InMonth, liftEras, Lifted};
 ghost use Rattle.calendar.specs.Dates.{utcEpochDay};
 ghost use Rattle.calendar.specs.Answers.{dateIn};
 use crate::CivilDate;
@@ -40,6 +40,12 @@ struct YearDay {
     day: u64,
 }
 
+// A year that begins in March, and a month of it from 0 on.
+struct MarchMonth {
+    year: u64,
+    month: u64,
+}
+
 // A year counted from so many eras before year 0.
 fn lifted(year: i32) -> u64
     ensures { λ r. ⌜ Lifted year r ⌝ }
@@ -72,18 +78,30 @@ fn days_before_month(month: u64) -> u64
     (153 * month + 2) / 5
 }
 
+// A month of a year, counted from March on.
+fn from_march(year: u64, month: u64) -> MarchMonth
+    requires { ⌜ (1 ≤ year) × (month < 2 ^ 8) ⌝ }
+    ensures { λ r. ⌜ FromMarch year month (r .year) (r .month) ⌝ }
+{
+    if month <= 2 {
+        MarchMonth {
+            year: year - 1,
+            month: month + 9,
+        }
+    } else {
+        MarchMonth {
+            year,
+            month: month - 3,
+        }
+    }
+}
+
 // The Unix day of a date, by civil.rs's formula, whatever its fields.
 pub fn days_of_date(date: CivilDate) -> i64
     ensures { λ r. ⌜ r ≡ dayOf (dateIn date) ⌝ }
 {
-    let year = lifted(date.year);
-    let month = date.month as u64;
-    let day = date.day as u64;
-    if month <= 2 {
-        lowered(days_before_year(year - 1) + days_before_month(month + 9) + day)
-    } else {
-        lowered(days_before_year(year) + days_before_month(month - 3) + day)
-    }
+    let at = from_march(lifted(date.year), date.month as u64);
+    lowered(days_before_year(at.year) + days_before_month(at.month) + date.day as u64)
 }
 
 // The year that holds a day. Centuries, and years of a century, begin after whole quarters, rounded down to days; so the
