@@ -3,8 +3,18 @@
 ghost use mathlib.Core.Path.{_≡_};
 ghost use Rattle.tables.specs.Entries.{offsetAt};
 ghost use Rattle.tables.specs.Slots.{tableOf};
+ghost use Rattle.scales.specs.Answers.{gpsIn, utcIn, glonassIn};
+ghost use Rattle.conversions.specs.Conversions.{gpsToUtc, utcToGps, glonassToGps, gpsToGlonass, unixToGps, gpsToUnix};
+ghost use Rattle.conversions.specs.Answers.{unixIn};
 ghost use Rattle.builtin.specs.Builtin.{builtin};
+use conversions::UnixAnswer;
+use scales::glonass::Glonass;
+use scales::glonass::GlonassAnswer;
+use scales::gps::Gps;
+use scales::gps::GpsAnswer;
 use scales::tai::Tai;
+use scales::utc::Utc;
+use scales::utc::UtcAnswer;
 use tables::LeapTable;
 use tables::inner;
 
@@ -72,4 +82,53 @@ pub fn tai_minus_utc_at(tai: Tai) -> i32
     let thresholds = BUILTIN_THRESHOLDS;
     let offsets = BUILTIN_OFFSETS;
     inner::offset_at(&thresholds, &offsets, LEN, tai.0)
+}
+
+pub fn gps_to_utc(gps: Gps) -> UtcAnswer
+    ensures { λ r. ⌜ utcIn r ≡ gpsToUtc builtin (gps .0) ⌝ }
+{
+    let thresholds = BUILTIN_THRESHOLDS;
+    let offsets = BUILTIN_OFFSETS;
+    UtcAnswer::of(conversions::inner::gps_to_utc(&thresholds, &offsets, LEN, gps.0))
+}
+
+// Where a UTC count repeats it is the first of two.
+pub fn utc_to_gps(utc: Utc) -> GpsAnswer
+    ensures { λ r. ⌜ gpsIn r ≡ utcToGps builtin (utc .0) ⌝ }
+{
+    let thresholds = BUILTIN_THRESHOLDS;
+    let offsets = BUILTIN_OFFSETS;
+    GpsAnswer::of(conversions::inner::utc_to_gps(&thresholds, &offsets, LEN, utc.0))
+}
+
+pub fn glonass_to_gps(glonass: Glonass) -> GpsAnswer
+    ensures { λ r. ⌜ gpsIn r ≡ glonassToGps builtin (glonass .0) ⌝ }
+{
+    let thresholds = BUILTIN_THRESHOLDS;
+    let offsets = BUILTIN_OFFSETS;
+    GpsAnswer::of(conversions::inner::glonass_to_gps(&thresholds, &offsets, LEN, glonass.0))
+}
+
+pub fn gps_to_glonass(gps: Gps) -> GlonassAnswer
+    ensures { λ r. ⌜ glonassIn r ≡ gpsToGlonass builtin (gps .0) ⌝ }
+{
+    let thresholds = BUILTIN_THRESHOLDS;
+    let offsets = BUILTIN_OFFSETS;
+    GlonassAnswer::of(conversions::inner::gps_to_glonass(&thresholds, &offsets, LEN, gps.0))
+}
+
+pub fn gps_from_unix_seconds(seconds: i64) -> GpsAnswer
+    ensures { λ r. ⌜ gpsIn r ≡ unixToGps builtin seconds ⌝ }
+{
+    let thresholds = BUILTIN_THRESHOLDS;
+    let offsets = BUILTIN_OFFSETS;
+    GpsAnswer::of(conversions::inner::unix_to_gps(&thresholds, &offsets, LEN, seconds))
+}
+
+pub fn gps_as_unix_seconds(gps: Gps) -> UnixAnswer
+    ensures { λ r. ⌜ unixIn r ≡ gpsToUnix builtin (gps .0) ⌝ }
+{
+    let thresholds = BUILTIN_THRESHOLDS;
+    let offsets = BUILTIN_OFFSETS;
+    conversions::inner::gps_to_unix(&thresholds, &offsets, LEN, gps.0)
 }
