@@ -7,9 +7,11 @@ ghost use Rattle.counts.specs.Units.{partsOf};
 ghost use Rattle.scales.specs.Answers.{gpsIn, utcIn, glonassIn, taiIn};
 ghost use Rattle.calendar.specs.Answers.{spanIn};
 ghost use Rattle.civil.specs.Fields.{fieldsIn};
+ghost use Rattle.conversions.specs.Answers.{unixIn};
 ghost use Rattle.plaitgate.specs.Civil.{fields};
 use calendar::SpanAnswer;
 use civil::CivilDateTime;
+use conversions::UnixAnswer;
 use counts::CountAnswer;
 use counts::DurationAnswer;
 use counts::units::PartsAnswer;
@@ -135,6 +137,21 @@ pub fn span(answer: SpanAnswer, out: &mut i64) -> u32
             0
         }
         SpanAnswer::Refused(r) => {
+            *out = 0;
+            r.number()
+        }
+    }
+}
+
+pub fn unix(answer: UnixAnswer, out: &mut i64) -> u32
+    ensures { λ r. ⌜ Gives (pos 0) (unixIn answer) r (now (out .exit)) ⌝ }
+{
+    match answer {
+        UnixAnswer::Seconds(n) => {
+            *out = n;
+            0
+        }
+        UnixAnswer::Refused(r) => {
             *out = 0;
             r.number()
         }
