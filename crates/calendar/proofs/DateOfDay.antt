@@ -1,18 +1,18 @@
 -- A year and a month that hold a day give the day's date: it is real, and its Unix day is the day.
-use Prim.Native.Nat.{ℕ, zero, suc, _+_, _-_, _*_, _/_, _≤_, _<_}
+use Prim.Native.Nat.{ℕ, zero, suc, _+_, _-_, _≤_, _<_}
 use mathlib.Core.Path.{_≡_, refl, ap, sym, _∙_, subst}
-use mathlib.Core.Bool.{Bool, true, false, cond}
+use mathlib.Core.Bool.{cond}
 use native.Mathlib.Omega.{arith}
 use native.Mathlib.Decide.{ℕ-discrete}
 use borrow.Author.Tests.{lt-ltb, le-ltb}
-use lib.IntN.{ℤ, pos, subℕ}
+use lib.IntN.{pos, subℕ}
 use Rattle.counts.proofs.Difference.{not-below}
-use Rattle.calendar.specs.Calendar.{Date, on, Real, leap, daysIn, dateOf}
+use Rattle.calendar.specs.Calendar.{on, Real, leap, daysIn, dateOf}
 use Rattle.calendar.specs.Formula.{dayOf, fromMarch, monthStart}
 use Rattle.calendar.specs.March.{daysInYears, marchOf, InYear, InMonth}
 use Rattle.calendar.proofs.MarchYears.{year-length, at-most-366}
 use Rattle.calendar.proofs.Months.{start, month-length, february}
-use Rattle.calendar.proofs.Eras.{dayNumber, counted}
+use Rattle.calendar.proofs.Eras.{counted}
 use Rattle.calendar.proofs.CalendarTheorems.{date-of-day}
 
 pub within-366 : (z y k : ℕ) → InYear z y k → k < 366

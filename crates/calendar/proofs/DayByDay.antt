@@ -1,11 +1,11 @@
 -- The date after and the date before undo each other at real dates, and lead to real dates.
 use mathlib.Core.Path.{_≡_, refl, ap, sym, _∙_}
 use mathlib.Core.Bool.{Bool}
-use Prim.Native.Nat.{ℕ, _+_, _-_, _≤_, _<_}
+use Prim.Native.Nat.{ℕ, _+_, _-_, _<_}
 use native.Mathlib.Omega.{arith}
 use native.Mathlib.Decide.{decLt}
 use borrow.Author.Tests.{lt-ltb, le-ltb}
-use lib.IntN.{ℤ, pos, sucℤ, predℤ, suc-pred, pred-suc}
+use lib.IntN.{ℤ, sucℤ, predℤ, suc-pred, pred-suc}
 use Rattle.calendar.specs.Calendar.{Date, on, Real, leap, daysIn, monthLength, next, prev}
 use Rattle.calendar.proofs.Months.{has-a-day}
 

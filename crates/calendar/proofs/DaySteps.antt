@@ -1,14 +1,14 @@
 -- From one date of the calendar to the next the formula's day goes up by one, and only 1970-01-01 is day 0.
 use mathlib.Core.Path.{_≡_, refl, ap, sym, _∙_, subst}
 use mathlib.Core.Logic.{_≢_}
-use mathlib.Core.Bool.{Bool, true, false, cond}
-use Prim.Native.Nat.{ℕ, zero, suc, _+_, _-_, _*_, _/_, _≤_, _<_}
+use mathlib.Core.Bool.{Bool, cond}
+use Prim.Native.Nat.{ℕ, suc, _+_, _-_, _*_, _≤_, _<_}
 use native.Mathlib.Omega.{arith}
 use native.Mathlib.Decide.{ℕ-discrete, decLt}
 use borrow.Author.Tests.{lt-ltb, le-ltb}
 use lib.IntN.{ℤ, pos, sucℤ, predℤ, subℕ, pred-suc}
 use Rattle.counts.proofs.Difference.{not-below}
-use Rattle.calendar.specs.Calendar.{Date, on, Real, leap, daysIn, monthLength, next, prev, unixEpoch}
+use Rattle.calendar.specs.Calendar.{Date, on, Real, leap, daysIn, next, prev, unixEpoch}
 use Rattle.calendar.specs.Formula.{dayOf, formula, fromMarch, monthStart}
 use Rattle.calendar.specs.March.{daysInYears, marchOf}
 use Rattle.calendar.proofs.Sums.{one-more, is-natural}

@@ -5,11 +5,11 @@ use mathlib.Core.Logic.{_⊎_, inl, inr}
 use mathlib.Core.Bool.{Bool, true, false, not, _&&_, _||_, cond}
 use native.Mathlib.Omega.{arith}
 use native.Mathlib.Decide.{decLt}
-use lib.Dec.{eqb, ltb, eqb·zero-suc, eqb·suc-zero}
-use lib.IntN.{ℤ, pos, negsuc, negℤ, predℤ, subℕ, natAbs, _+ℤ_, _-ℤ_, _*ℤ_}
+use lib.Dec.{eqb, ltb, eqb·suc-zero}
+use lib.IntN.{ℤ, pos, negsuc, negℤ, predℤ, subℕ, _+ℤ_, _-ℤ_, _*ℤ_}
 use lib.Signed.{quotZ}
 use Rattle.counts.proofs.Difference.{not-below, below, same, of-naturals, less}
-use Rattle.calendar.specs.Calendar.{divides, leap}
+use Rattle.calendar.specs.Calendar.{leap}
 use Rattle.calendar.specs.Formula.{fromMarch, marchYear, era, yoe, doy, doe, monthStart, formula}
 use Rattle.calendar.specs.March.{daysInYears, marchOf, liftEras, Lifted}
 use Rattle.calendar.proofs.Sums.{one-less, sum, difference, times}

@@ -1,6 +1,6 @@
 -- Years of 32 bits counted from 5,368,710 eras before year 0, and the days between two dates counted in naturals.
 use mathlib.Core.Path.{_≡_, refl, sym, ap, subst, _∙_}
-use Prim.Native.Nat.{ℕ, suc, _+_, _-_, _*_, _/_, _<_, _^_}
+use Prim.Native.Nat.{ℕ, suc, _+_, _-_, _*_, _<_, _^_}
 use native.Mathlib.Omega.{arith}
 use mathlib.Core.Bool.{Bool, true, false, cond}
 use lib.Dec.{ltb}
@@ -11,8 +11,8 @@ use mir.Val.{SFits}
 use Rattle.counts.proofs.Difference.{not-below, below, same}
 use Rattle.counts.specs.Units.{daySeconds}
 use Rattle.calendar.specs.Calendar.{Date}
-use Rattle.calendar.specs.Formula.{fromMarch, monthStart, formula, dayOf}
-use Rattle.calendar.specs.March.{daysInYears, marchOf, liftEras, Lifted}
+use Rattle.calendar.specs.Formula.{monthStart, dayOf}
+use Rattle.calendar.specs.March.{daysInYears, liftEras, Lifted}
 use Rattle.calendar.specs.Dates.{daysBetween}
 use Rattle.calendar.proofs.Sums.{difference, times, magnitude}
 use Rattle.calendar.proofs.Eras.{dayNumber, counted}

@@ -1,12 +1,12 @@
 -- The nanoseconds of so many days are a signed 64-bit number exactly for 106,751 days, onward or back, and fewer.
-use mathlib.Core.Path.{_≡_, refl, sym, ap, subst, _∙_}
-use mathlib.Core.Bool.{Bool, true, false}
+use mathlib.Core.Path.{_≡_, sym, ap, subst, _∙_}
+use mathlib.Core.Bool.{true, false}
 use Prim.Native.Nat.{ℕ, suc, _+_, _-_, _*_, _≤_, _<_, _^_}
 use native.Mathlib.Omega.{arith}
-use borrow.Author.Tests.{ltb-true, ltb-false, lt-ltb, le-ltb}
-use lib.IntN.{ℤ, pos, negsuc, negℤ, _*ℤ_}
+use borrow.Author.Tests.{ltb-true, ltb-false}
+use lib.IntN.{ℤ, pos, negsuc, _*ℤ_}
 use lib.Signed.{mag, ltZ}
-use Rattle.refusals.specs.Outcome.{Outcome, answered, refused}
+use Rattle.refusals.specs.Outcome.{answered, refused}
 use Rattle.counts.specs.Exact.{durationOf}
 use Rattle.counts.specs.Units.{second, daySeconds}
 use Rattle.counts.proofs.Difference.{below}

@@ -1,13 +1,13 @@
 -- Both days are far below 2 ^ 63, so their difference fits.
 use mathlib.Core.Path.{_≡_, sym, subst, _∙_}
 use native.Mathlib.Omega.{arith}
-use lib.IntN.{ℤ, _-ℤ_}
+use lib.IntN.{_-ℤ_}
 use mir.Syntax.{w64}
 use mir.Val.{SFits, toZ, ofZ}
 use mir.Facts.{toZ-ofZ}
 use Rattle.calendar.specs.Answers.{dateIn}
 use Rattle.calendar.specs.Dates.{daysBetween}
-use Rattle.calendar.proofs.Lifting.{Sized, apart, days-fit}
+use Rattle.calendar.proofs.Lifting.{apart, days-fit}
 use borrow.Author.Needs.{needs}
 use Rattle.calendar.proofs.days_between.Statement.{statement}
 use Rattle.calendar.proofs.days_between.Tie as tie

@@ -1,10 +1,10 @@
 -- A date that is too early is refused, and any other has its day.
-use mathlib.Core.Path.{_≡_, sym, ap, _∙_}
+use mathlib.Core.Path.{sym, ap, _∙_}
 use mathlib.Core.Bool.{Bool, cond}
 use lib.IntN.{ℤ}
 use mir.Syntax.{w64}
 use mir.Facts.{toZ-ofZ}
-use Rattle.refusals.specs.Outcome.{Outcome, answered, refused}
+use Rattle.refusals.specs.Outcome.{answered, refused}
 use Rattle.calendar.specs.Answers.{dateIn}
 use Rattle.calendar.specs.Formula.{dayOf}
 use borrow.Author.Needs.{needs}

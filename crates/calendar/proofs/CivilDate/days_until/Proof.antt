@@ -1,5 +1,5 @@
 -- Two dates of which one is too early are refused, and any others have the days between them.
-use mathlib.Core.Path.{_≡_, sym, ap, _∙_}
+use mathlib.Core.Path.{sym, ap, _∙_}
 use lib.IntN.{ℤ}
 use mir.Syntax.{w64}
 use mir.Facts.{toZ-ofZ}

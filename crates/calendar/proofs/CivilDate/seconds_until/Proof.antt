@@ -8,7 +8,7 @@ use mir.Facts.{toZ-ofZ}
 use Rattle.refusals.specs.Outcome.{answered}
 use Rattle.calendar.specs.Answers.{dateIn, spanIn}
 use Rattle.calendar.specs.Dates.{daysBetween}
-use Rattle.calendar.proofs.Lifting.{Sized, Apart, apart, days-fit, seconds-fit}
+use Rattle.calendar.proofs.Lifting.{Apart, apart, days-fit, seconds-fit}
 use Rattle.calendar.proofs.TooEarly.{Given, given, refuses}
 use borrow.Author.Needs.{needs}
 use Rattle.calendar.proofs.CivilDate.seconds_until.Statement.{statement}

@@ -1,5 +1,5 @@
 -- Each constant is the date of its epoch.
-use mathlib.Core.Path.{_≡_, sym, ap}
+use mathlib.Core.Path.{sym, ap}
 use borrow.Author.Needs.{needs}
 use Rattle.calendar.specs.Epochs.{epochOf}
 use Rattle.calendar.proofs.epochs.Epoch.date.Statement.{statement}

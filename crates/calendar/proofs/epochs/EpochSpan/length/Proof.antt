@@ -1,5 +1,5 @@
 -- Each constant is what the formula, computed, says between its two epochs.
-use mathlib.Core.Path.{_≡_, sym, ap}
+use mathlib.Core.Path.{sym, ap}
 use borrow.Author.Needs.{needs}
 use Rattle.calendar.specs.Formula.{era, yoe, doy, doe, formula}
 use Rattle.calendar.specs.Epochs.{lengthOf}
