@@ -74,7 +74,9 @@ seconds-of-day s = sums (s % 86400) (s % 3600) (s % 60) hours minutes
     sums d h m e f = omega arith
 
 whole : (n : ℕ) → n / 1000000000 / 86400 * 86400000000000 + timeOf (fieldsOf n) ≡ n
-whole n = sums (n / 1000000000 / 86400) (n / 1000000000 % 86400) _ (n / 1000000000) (n % 1000000000) (seconds-of-day (n / 1000000000)) (omega arith) (omega arith)
+whole n =
+    sums (n / 1000000000 / 86400) (n / 1000000000 % 86400) _ (n / 1000000000) (n % 1000000000) (seconds-of-day (n / 1000000000))
+    (omega arith) (omega arith)
   where
     sums : (d r t s k : ℕ) → t ≡ r → d * 86400 + r ≡ s → s * 1000000000 + k ≡ n → d * 86400000000000 + (t * 1000000000 + k) ≡ n
     sums d r t s k e f g = omega arith
@@ -82,7 +84,8 @@ whole n = sums (n / 1000000000 / 86400) (n / 1000000000 % 86400) _ (n / 10000000
 pub count-back : CountsComeBack
 count-back n h =
     ap (λ (z : ℤ). onDay (z -ℤ pos utcEpochDay) (timeOf (fieldsOf n))) (day-of-date (pos (d + utcEpochDay)))
-    ∙ ap (λ (z : ℤ). onDay z (timeOf (fieldsOf n))) (of-naturals (d + utcEpochDay) utcEpochDay ∙ not-below (d + utcEpochDay) utcEpochDay (omega arith) ∙ ap pos (omega arith))
+    ∙ ap (λ (z : ℤ). onDay z (timeOf (fieldsOf n))) (of-naturals (d + utcEpochDay) utcEpochDay ∙ not-below (d + utcEpochDay)
+    utcEpochDay (omega arith) ∙ ap pos (omega arith))
     ∙ ap (λ (k : ℕ). countOf (pos k)) (whole n) ∙ is-count n h
   where
     d : ℕ
@@ -94,16 +97,13 @@ record Answered (z : ℤ) (t n : ℕ) : Type 0 where
   is : z ≡ pos day
   sum : day * dayNanos + t ≡ n
 
-clash : _≡_ {A = ℕ} 0 1 → ⊥
-clash e = omega arith
-
 answered-on : (z : ℤ) (t n : ℕ) → onDay z t ≡ answered n → Answered z t n
 answered-on (pos d) t n e = record { day = d; is = refl; sum = by-size (ltb (d * dayNanos + t) (2 ^ 64)) e }
   where
     by-size : (b : Bool) → cond b (answered (d * dayNanos + t)) (refused 1) ≡ answered n → d * dayNanos + t ≡ n
     by-size true e = cc
     by-size false e = cc
-answered-on (negsuc d) t n e = let z : _≡_ {A = ℕ} 0 1 = cc in absurd (clash z)
+answered-on (negsuc d) t n e = let z : _≡_ {A = ℕ} 0 1 = cc in absurd (omega arith)
 
 -- the seconds of a day and a time give both back
 module _ (d h m s : ℕ) (few-hours : h < 24) (few-minutes : m < 60) (few-seconds : s < 60) where
@@ -160,7 +160,8 @@ fields-back f n r e = λ i. record { date = date i; hour = hour i; minute = minu
 
     date : dateOf (pos (n / 1000000000 / 86400 + utcEpochDay)) ≡ f .date
     date =
-        ap (λ (d : ℕ). dateOf (pos (d + utcEpochDay))) (ap (λ (s : ℕ). s / 86400) whole-seconds ∙ back-day (a .day) (f .hour) (f .minute) (f .second) (r .hour) (r .minute) (r .second))
+        ap (λ (d : ℕ). dateOf (pos (d + utcEpochDay))) (ap (λ (s : ℕ). s / 86400) whole-seconds ∙ back-day (a .day) (f .hour)
+        (f .minute) (f .second) (r .hour) (r .minute) (r .second))
         ∙ ap dateOf (sym (sym (-ℤ-+ℤ-cancel (dayOf (f .date)) (pos utcEpochDay)) ∙ ap (λ (z : ℤ). z +ℤ pos utcEpochDay) (a .is)))
         ∙ date-of-day (f .date) (r .date)
 

@@ -19,12 +19,14 @@ days-of-date-requires c κs = search needs
 
 returns : tie.Need-returns
 returns c =
-    sym (ap (λ (t : Bool). cond t (refused 1) (answered (dayOf (dateIn (c .before .before .args .self))))) (sym (c .before .too-early .ensures) ∙ c .if1 .taken))
+    sym (ap (λ (t : Bool). cond t (refused 1) (answered (dayOf (dateIn (c .before .before .args .self)))))
+    (sym (c .before .too-early .ensures) ∙ c .if1 .taken))
 
 returns-2 : tie.Need-returns-2
 returns-2 c =
     ap (λ (z : ℤ). answered z) (toZ-ofZ {w = w64} (record { sfits = c .days-of-date .ok }) ∙ c .days-of-date .ensures)
-    ∙ sym (ap (λ (t : Bool). cond t (refused 1) (answered (dayOf (dateIn (c .before .before .before .args .self))))) (sym (c .before .before .too-early .ensures) ∙ c .before .if1 .left))
+    ∙ sym (ap (λ (t : Bool). cond t (refused 1) (answered (dayOf (dateIn (c .before .before .before .args .self)))))
+    (sym (c .before .before .too-early .ensures) ∙ c .before .if1 .left))
 
 pub days-from-unix-spec : {M : Type 1} → statement M
 days-from-unix-spec =
