@@ -1,4 +1,5 @@
--- For real dates the formula is the calendar, in every year, before year 0 too: the date of the day that it gives is the date, and the day that it gives to the date of a day is the day.
+-- For real dates the formula is the calendar, in every year, before year 0 too.
+-- The date of the day that it gives a date is the date, and the day that it gives the date of a day is the day.
 use mathlib.Core.Path.{_≡_, refl, ap, sym, _∙_}
 use Prim.Native.Nat.{zero, suc}
 use lib.IntN.{ℤ, pos, negsuc, sucℤ, predℤ}

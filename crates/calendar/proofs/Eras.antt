@@ -1,4 +1,5 @@
--- Every year is a natural year so many eras of 400 years before, and the formula, like the calendar, does not tell eras apart: so a day of any year is counted in naturals.
+-- Every year is a natural year less so many eras of 400 years, and neither the calendar nor the formula tells eras apart.
+-- So a day of any year is counted in naturals.
 use Prim.Native.Nat.{ℕ, zero, suc, _+_, _-_, _*_, _/_, _%_, _≤_, _<_}
 use mathlib.Core.Path.{_≡_, refl, ap, sym, _∙_}
 use mathlib.Core.Logic.{_⊎_, inl, inr}

@@ -44,7 +44,12 @@ DateOfACountIsItsDays = (n : ℕ) → fieldsOf n .date ≡ dateOf (pos (n / dayN
 abbrev pub LaterCountsHaveNoEarlierDates : Type 0
 LaterCountsHaveNoEarlierDates = (n m : ℕ) → n ≤ m → NotAfter (fieldsOf n .date) (fieldsOf m .date)
 
--- of the calls, by their contracts: `to_utc_nanos` answers n for what `from_utc_nanos` gives of n, and `from_utc_nanos` gives back real fields for which `to_utc_nanos` answers n
+-- the count of a date that the calendar has goes by the calendar's day
+abbrev pub RealDatesGoByTheCalendar : Type 0
+RealDatesGoByTheCalendar = (f : Fields) (z : ℤ) → dateOf z ≡ f .date → countAt f ≡ onDay (z -ℤ pos utcEpochDay) (timeOf f)
+
+-- of the calls, by their contracts: `to_utc_nanos` answers n for what `from_utc_nanos` gives of n,
+-- and `from_utc_nanos` gives back real fields for which `to_utc_nanos` answers n
 abbrev pub CallsBringCountsBack : Type 0
 CallsBringCountsBack =
     (n : ℕ) (c : CivilDateTime) (x : CountAnswer) → n < 2 ^ 64 → fieldsIn c ≡ fieldsOf n → countIn x ≡ countAt (fieldsIn c) → x ≡ Count n
@@ -176,6 +181,9 @@ later-counts n m h = no-earlier-dates (n / 1000000000 / 86400 + utcEpochDay) (m 
   where
     days : (n m : ℕ) → n ≤ m → n / 1000000000 / 86400 + 730 ≤ m / 1000000000 / 86400 + 730
     days n m h = omega arith
+
+pub by-the-calendar : RealDatesGoByTheCalendar
+by-the-calendar f z e = ap (λ (d : ℤ). onDay (d -ℤ pos utcEpochDay) (timeOf f)) (ap dayOf (sym e) ∙ day-of-date z)
 
 -- ---- the calls
 pub calls-bring-counts-back : CallsBringCountsBack
