@@ -4,6 +4,7 @@ pub mod inner;
 pub mod table;
 
 use refusals::Refusal;
+use scales::tai::Tai;
 
 // From the TAI reading `tai_nanos` on, TAI is `tai_minus_utc` seconds ahead of UTC.
 pub struct LeapEntry {
@@ -47,9 +48,9 @@ pub enum EntryAnswer {
     Refused(Refusal),
 }
 
-// The TAI nanoseconds of the last event, or nothing.
+// The TAI count of the last event, or nothing.
 pub enum UpdateAnswer {
-    At(u64),
+    At(Tai),
     Nothing,
     Refused(Refusal),
 }

@@ -19,6 +19,7 @@ use crate::Taken;
 use crate::UpdateAnswer;
 use crate::inner;
 use refusals::Refusal;
+use scales::tai::Tai;
 
 impl LeapTable {
     // The table with no entry.
@@ -116,7 +117,7 @@ impl LeapTable {
             return UpdateAnswer::Refused(Refusal::BadTable);
         }
         if 1 < n {
-            UpdateAnswer::At(self.thresholds[n - 1])
+            UpdateAnswer::At(Tai(self.thresholds[n - 1]))
         } else {
             UpdateAnswer::Nothing
         }
@@ -138,12 +139,12 @@ impl LeapTable {
     }
 
     // The offset in force at a TAI reading.
-    pub fn tai_minus_utc_at(self, tai: u64) -> OffsetAnswer
-        ensures { λ r. ⌜ offsetIn r ≡ ofValid self (answered (offsetAt (entriesOf self) tai)) ⌝ }
+    pub fn tai_minus_utc_at(self, tai: Tai) -> OffsetAnswer
+        ensures { λ r. ⌜ offsetIn r ≡ ofValid self (answered (offsetAt (entriesOf self) (tai .0))) ⌝ }
     {
         let n = self.len;
         if inner::is_valid(&self.thresholds, &self.offsets, n) {
-            OffsetAnswer::Offset(inner::offset_at(&self.thresholds, &self.offsets, n, tai))
+            OffsetAnswer::Offset(inner::offset_at(&self.thresholds, &self.offsets, n, tai.0))
         } else {
             OffsetAnswer::Refused(Refusal::BadTable)
         }
