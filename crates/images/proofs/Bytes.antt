@@ -1,19 +1,26 @@
 -- A number in bytes, read and written a byte at a turn.
 use mathlib.Core.Path.{_≡_, refl, sym, ap, _∙_}
-use mathlib.Core.List.{List, [], _∷_}
+use mathlib.Core.List.{List}
 use Prim.Native.Nat.{ℕ, zero, suc, _+_, _-_, _*_, _/_, _%_, _^_, _≤_, _<_}
 use native.Mathlib.Nat.{pow-suc, pow-le-pow-right}
 use native.Mathlib.Omega.{arith}
 use lib.Dec.{lit<}
-use lib.ListN.{length, getD, drop, set}
-use lib.Seq.{drop-cons, sets}
+use lib.ListN.{length, getD, take, drop, set}
+use lib.Seq.{sets, slice, slice-empty, slice-cons, take-add, drop-at, length-take-le}
 use Rattle.images.specs.Image.{numberIn, bytesOf}
 
--- reading from the last byte to the first: one byte more in front
-pub byte-more : (b : List ℕ) (i j : ℕ) → suc i ≡ j → j ≤ length b → numberIn (drop i b) ≡ numberIn (drop j b) * 256 + getD b i 0
+-- the bytes from `from` up to `to`, one more in front
+pub byte-more : (b : List ℕ) (from to : ℕ) → from < to → to ≤ length b → numberIn (slice from to b) ≡ numberIn (slice (suc from) to b) * 256 + getD b from 0
 unfolding numberIn
-byte-more b i j e h =
-    ap numberIn (drop-cons b i 0 (omega arith)) ∙ ap (λ (k : ℕ). getD b i 0 + 256 * numberIn (drop k b)) e ∙ omega arith
+byte-more b from to h l = ap numberIn (slice-cons from to b 0 h l) ∙ omega arith
+
+pub no-byte : (b : List ℕ) (at : ℕ) → numberIn (slice at at b) ≡ 0
+unfolding numberIn
+no-byte b at = ap numberIn (slice-empty at b)
+
+-- the bytes from `at` on, `width` of them
+pub bytes-at : (b : List ℕ) (at width : ℕ) → at ≤ length b → slice at (at + width) b ≡ take width (drop at b)
+bytes-at b at width h = ap (drop at) (take-add at width b) ∙ drop-at (take at b) (take width (drop at b)) at (length-take-le at b h)
 
 pub byte-above : (n d i j : ℕ) → n < 256 ^ i → d < 256 → suc i ≡ j → n * 256 + d < 256 ^ j
 byte-above n d i j h l e = let p : 256 ^ j ≡ 256 ^ i * 256 = ap (λ (k : ℕ). 256 ^ k) (sym e) ∙ pow-suc 256 i in omega arith
@@ -36,8 +43,3 @@ pub all-written : (out : List ℕ) (at width rest : ℕ) → sets out at (bytesO
 unfolding bytesOf
 all-written out at width rest =
     let w : width - width ≡ 0 = omega arith in ap (λ (k : ℕ). sets out at (bytesOf k rest)) w
-
-pub none-read : (b : List ℕ) → numberIn (drop (length b) b) ≡ 0
-unfolding numberIn
-none-read [] = refl
-none-read (x ∷ b) = none-read b

@@ -21,9 +21,9 @@ field-more k stride (suc n) bs =
 
 -- the first i slots hold the first i numbers, and the next number is put into the slot behind them
 module _ {A : Type 0} (f : ℕ → A) (k stride start : ℕ) (b : List ℕ) where
-  pub none-kept : take 0 (drop start b) ≡ [] → _≡_ {A = List A} [] (map f (numbersIn k stride 0 (drop start b)))
+  pub none-kept : _≡_ {A = List A} [] (map f (numbersIn k stride 0 (drop start b)))
   unfolding numbersIn
-  none-kept e = refl
+  none-kept = refl
 
   pub field-kept : (kept : List A) (i : ℕ) (v : A) → i < length kept
       → take i kept ≡ map f (numbersIn k stride i (drop start b)) → v ≡ f (numberIn (take k (drop (start + stride * i) b)))
@@ -41,7 +41,7 @@ pub all-bytes-count : (k : ℕ) (ns : List ℕ) → length (bytesOfAll k ns) ≡
 unfolding bytesOfAll
 all-bytes-count k [] = sym (mul-zero k)
 all-bytes-count k (n ∷ ns) =
-    length-append (bytesOf k n) (bytesOfAll k ns) ∙ rw (bytes-count, all-bytes-count, mul-suc) (omega arith)
+    length-append (bytesOf k n) (bytesOfAll k ns) ∙ rw (bytes-count, all-bytes-count k ns, mul-suc) (omega arith)
 
 -- two runs of stores, the second from where the first ends
 pub sets-sets : {A : Type 0} (l vs ws : List A) (i j : ℕ) → j ≡ i + length vs → sets (sets l i vs) j ws ≡ sets l i (vs ++ ws)

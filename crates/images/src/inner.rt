@@ -47,17 +47,18 @@ fn wide(b: u8) -> u64
     b as u64
 }
 
-// The number that up to 8 bytes hold.
-pub fn number_in(bytes: &[u8]) -> u64
-    requires { ⌜ length (now bytes) ≤ 8 ⌝ }
-    ensures is { λ r. ⌜ r ≡ numberIn (now (bytes .entry)) ⌝ }
-    ensures below { λ r. ⌜ r < 256 ^ length (now (bytes .entry)) ⌝ }
+// The number in so many bytes, up to 8, the first at `at`.
+pub fn number_at(bytes: &[u8], at: usize, width: usize) -> u64
+    requires { ⌜ width ≤ 8 ⌝ }
+    requires { ⌜ at + width ≤ length (now bytes) ⌝ }
+    ensures is { λ r. ⌜ r ≡ numberIn (take width (drop at (now (bytes .entry)))) ⌝ }
+    ensures below { λ r. ⌜ r < 256 ^ width ⌝ }
 {
     let mut n: u64 = 0;
-    let mut i = bytes.len();
+    let mut i = width;
     while 0 < i {
         i -= 1;
-        n = n * 256 + wide(bytes[i]);
+        n = n * 256 + wide(bytes[at + i]);
     }
     n
 }
@@ -99,8 +100,7 @@ pub fn thresholds_at(bytes: &[u8], start: usize, stride: usize, n: usize) -> [u6
     let mut kept = [0u64; 64];
     let mut i: usize = 0;
     while i < n {
-        let at = start + stride * i;
-        kept[i] = number_in(&bytes[at..at + THRESHOLD_BYTES]);
+        kept[i] = number_at(bytes, start + stride * i, THRESHOLD_BYTES);
         i += 1;
     }
     kept
@@ -115,8 +115,8 @@ pub fn offsets_at(bytes: &[u8], start: usize, stride: usize, n: usize) -> [i32; 
     let mut kept = [0i32; 64];
     let mut i: usize = 0;
     while i < n {
-        let at = start + stride * i;
-        kept[i] = signed(number_in(&bytes[at..at + OFFSET_BYTES]) as u32);
+        let bits = number_at(bytes, start + stride * i, OFFSET_BYTES) as u32;
+        kept[i] = signed(bits);
         i += 1;
     }
     kept
@@ -129,7 +129,7 @@ pub fn table_in(image: &[u8]) -> LeapTable
 {
     let thresholds = thresholds_at(image, THRESHOLDS_AT, THRESHOLD_BYTES, 64);
     let offsets = offsets_at(image, OFFSETS_AT, OFFSET_BYTES, 64);
-    let len = number_in(&image[0..THRESHOLDS_AT]) as usize;
+    let len = number_at(image, 0, THRESHOLDS_AT) as usize;
     LeapTable {
         thresholds,
         offsets,
@@ -137,23 +137,25 @@ pub fn table_in(image: &[u8]) -> LeapTable
     }
 }
 
-pub fn put_thresholds(out: &mut [u8], start: usize, thresholds: &[u64; 64])
-    requires { ⌜ start + 512 ≤ length (now out) ⌝ }
+// Thresholds one after the other, the first at `start`.
+pub fn put_thresholds(out: &mut [u8], start: usize, thresholds: &[u64])
+    requires { ⌜ start + 8 * length (now thresholds) ≤ length (now out) ⌝ }
     ensures { λ _. ⌜ now (out .exit) ≡ sets (now (out .entry)) start (bytesOfAll 8 (now (thresholds .entry))) ⌝ }
 {
     let mut i: usize = 0;
-    while i < 64 {
+    while i < thresholds.len() {
         put_number(out, start + THRESHOLD_BYTES * i, THRESHOLD_BYTES, thresholds[i]);
         i += 1;
     }
 }
 
-pub fn put_offsets(out: &mut [u8], start: usize, offsets: &[i32; 64])
-    requires { ⌜ start + 256 ≤ length (now out) ⌝ }
+// The same of offsets.
+pub fn put_offsets(out: &mut [u8], start: usize, offsets: &[i32])
+    requires { ⌜ start + 4 * length (now offsets) ≤ length (now out) ⌝ }
     ensures { λ _. ⌜ now (out .exit) ≡ sets (now (out .entry)) start (bytesOfAll 4 (map (ofZ w32) (now (offsets .entry)))) ⌝ }
 {
     let mut i: usize = 0;
-    while i < 64 {
+    while i < offsets.len() {
         let bits = complement(offsets[i]) as u64;
         put_number(out, start + OFFSET_BYTES * i, OFFSET_BYTES, bits);
         i += 1;
