@@ -1,3 +1,5 @@
 pub mod Bytes
 pub mod Complement
 pub mod Fields
+pub mod Whole
+pub mod ListedEntries
