@@ -1,6 +1,7 @@
 -- `build` meets its contract.
 use mathlib.Core.Path.{_≡_, sym, ap, _∙_}
 use Prim.Native.Nat.{ℕ, _/_}
+use native.Mathlib.Omega.{arith}
 use denote.Ref.{now}
 use lib.ListN.{length, take}
 use lib.Seq.{length-take-le}
@@ -36,19 +37,29 @@ array-share-prefix-thresholds : tie.Need-array-share-prefix-thresholds
 array-share-prefix-thresholds c = search needs
 
 slice-aggregate-from-lists : tie.Need-slice-aggregate-from-lists
-slice-aggregate-from-lists c = ?
+slice-aggregate-from-lists c =
+    let many : length (c .before .before .thresholds-at .result) ≡ 64 = search needs in
+    sym (length-take-le _ (c .before .before .thresholds-at .result) (omega arith))
 
 array-share-prefix-offsets : tie.Need-array-share-prefix-offsets
 array-share-prefix-offsets c = search needs
 
 slice-aggregate-from-lists-2 : tie.Need-slice-aggregate-from-lists-2
-slice-aggregate-from-lists-2 c = ?
+slice-aggregate-from-lists-2 c =
+    let many : length (c .before .before .offsets-at .result) ≡ 64 = search needs in
+    sym (length-take-le _ (c .before .before .offsets-at .result) (omega arith))
 
 from-lists-requires : tie.Need-from-lists-requires
 from-lists-requires c κs = search needs
 
 returns-3 : tie.Need-returns-3
-returns-3 c = ?
+returns-3 c =
+    let offsets = c .before .before .before in
+    let thresholds = offsets .before in
+    let b = now (thresholds .before .before .before .before .args .entries) in
+    c .from-lists .ensures
+    ∙ (λ i. built (paired (thresholds .thresholds-at .ensures i) (offsets .offsets-at .ensures i)))
+    ∙ ap built (entries-paired (length b / 12) b) ∙ whole-entries b _ _ (thresholds .before .before .if1 .left)
 
 pub build-spec : {M : Type 1} → statement M
 build-spec =
