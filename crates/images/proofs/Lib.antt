@@ -3,3 +3,6 @@ pub mod Complement
 pub mod Fields
 pub mod Whole
 pub mod ListedEntries
+pub mod Inverses
+pub mod ImageTheorems
+pub mod Calls

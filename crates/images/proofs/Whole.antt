@@ -30,7 +30,7 @@ module _ (t : LeapTable) (h : length (t .thresholds) ≡ 64) (k : length (t .off
   offset-bytes : length (bytesOfAll 4 (map (ofZ w32) (t .offsets))) ≡ 256
   offset-bytes = all-bytes-count 4 (map (ofZ w32) (t .offsets)) ∙ rw length-map (omega arith)
 
-  threshold-bytes : length (bytesOfAll 8 (t .thresholds)) ≡ 512
+  pub threshold-bytes : length (bytesOfAll 8 (t .thresholds)) ≡ 512
   threshold-bytes = all-bytes-count 8 (t .thresholds) ∙ omega arith
 
   pub image-count : length (imageOf t) ≡ 776
