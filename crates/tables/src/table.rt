@@ -18,6 +18,7 @@ use crate::OffsetAnswer;
 use crate::Taken;
 use crate::UpdateAnswer;
 use crate::inner;
+use crate::lent;
 use refusals::Refusal;
 use scales::tai::Tai;
 
@@ -143,11 +144,7 @@ impl LeapTable {
         ensures { λ r. ⌜ offsetIn r ≡ ofValid self (answered (offsetAt (entriesOf self) (tai .0))) ⌝ }
     {
         let n = self.len;
-        if inner::is_valid(&self.thresholds, &self.offsets, n) {
-            OffsetAnswer::Offset(inner::offset_at(&self.thresholds, &self.offsets, n, tai.0))
-        } else {
-            OffsetAnswer::Refused(Refusal::BadTable)
-        }
+        lent::tai_minus_utc_at(&self.thresholds, &self.offsets, n, tai)
     }
 }
 
