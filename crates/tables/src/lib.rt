@@ -9,6 +9,9 @@ ghost use Rattle.tables.specs.Entries.{entry};
 use refusals::Refusal;
 use scales::tai::Tai;
 
+// The most entries that a table holds.
+pub const RUNTIME_CAPACITY: usize = 64;
+
 // From the TAI reading `tai_nanos` on, TAI is `tai_minus_utc` seconds ahead of UTC.
 pub struct LeapEntry {
     pub tai_nanos: u64,

@@ -15,6 +15,7 @@ use crate::LeapEntry;
 use crate::LeapTable;
 use crate::LengthAnswer;
 use crate::OffsetAnswer;
+use crate::RUNTIME_CAPACITY;
 use crate::Taken;
 use crate::UpdateAnswer;
 use crate::inner;
@@ -42,7 +43,7 @@ impl LeapTable {
         if n == 0 {
             return unbuilt(Refusal::EmptyTable);
         }
-        if 64 < n {
+        if RUNTIME_CAPACITY < n {
             return unbuilt(Refusal::BufferFull);
         }
         match inner::first_refusal(thresholds, offsets, n) {
