@@ -15,9 +15,11 @@ use crate::LeapEntry;
 use crate::LeapTable;
 use crate::LengthAnswer;
 use crate::OffsetAnswer;
+use crate::RUNTIME_CAPACITY;
 use crate::Taken;
 use crate::UpdateAnswer;
 use crate::inner;
+use crate::lent;
 use refusals::Refusal;
 use scales::tai::Tai;
 
@@ -41,7 +43,7 @@ impl LeapTable {
         if n == 0 {
             return unbuilt(Refusal::EmptyTable);
         }
-        if 64 < n {
+        if RUNTIME_CAPACITY < n {
             return unbuilt(Refusal::BufferFull);
         }
         match inner::first_refusal(thresholds, offsets, n) {
@@ -143,11 +145,7 @@ impl LeapTable {
         ensures { λ r. ⌜ offsetIn r ≡ ofValid self (answered (offsetAt (entriesOf self) (tai .0))) ⌝ }
     {
         let n = self.len;
-        if inner::is_valid(&self.thresholds, &self.offsets, n) {
-            OffsetAnswer::Offset(inner::offset_at(&self.thresholds, &self.offsets, n, tai.0))
-        } else {
-            OffsetAnswer::Refused(Refusal::BadTable)
-        }
+        lent::tai_minus_utc_at(&self.thresholds, &self.offsets, n, tai)
     }
 }
 
