@@ -16,6 +16,7 @@ use tables::LeapTable;
 use tables::Taken;
 
 pub const THRESHOLD_BYTES: usize = 8;
+
 const OFFSET_BYTES: usize = 4;
 
 // A threshold and an offset.
@@ -23,6 +24,7 @@ pub const ENTRY_BYTES: usize = 12;
 
 // In an image the thresholds follow the length of 8 bytes, and the offsets follow 64 thresholds: 8 + 64 * 8.
 const THRESHOLDS_AT: usize = 8;
+
 const OFFSETS_AT: usize = 520;
 
 // 8 + 64 * 8 + 64 * 4
@@ -81,14 +83,22 @@ pub fn put_number(out: &mut [u8], at: usize, width: usize, n: u64)
 pub fn signed(n: u32) -> i32
     ensures { λ r. ⌜ r ≡ toZ w32 n ⌝ }
 {
-    if n <= LARGEST_OFFSET { n as i32 } else { !(!n as i32) }
+    if n <= LARGEST_OFFSET {
+        n as i32
+    } else {
+        !(!n as i32)
+    }
 }
 
 // The two's complement of an offset.
 pub fn complement(offset: i32) -> u32
     ensures { λ r. ⌜ r ≡ ofZ w32 offset ⌝ }
 {
-    if 0 <= offset { offset as u32 } else { !(!offset as u32) }
+    if 0 <= offset {
+        offset as u32
+    } else {
+        !(!offset as u32)
+    }
 }
 
 // n thresholds, the first at `start` and each `stride` bytes after the one before, in the first n slots.
@@ -144,7 +154,12 @@ pub fn put_thresholds(out: &mut [u8], start: usize, thresholds: &[u64])
 {
     let mut i: usize = 0;
     while i < thresholds.len() {
-        put_number(out, start + THRESHOLD_BYTES * i, THRESHOLD_BYTES, thresholds[i]);
+        put_number(
+            out,
+            start + THRESHOLD_BYTES * i,
+            THRESHOLD_BYTES,
+            thresholds[i],
+        );
         i += 1;
     }
 }

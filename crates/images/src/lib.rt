@@ -5,6 +5,7 @@ ghost use mathlib.Core.Path.{_≡_};
 ghost use Rattle.tables.specs.Answers.{takenIn, extensionIn};
 ghost use Rattle.tables.specs.Entries.{entry};
 ghost use Rattle.images.specs.Image.{imageRead, imageWritten, builtFrom, imageExtended};
+
 pub mod inner;
 
 use refusals::Refusal;

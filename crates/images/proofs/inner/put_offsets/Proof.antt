@@ -67,7 +67,7 @@ loop-again c =
     = bits .ensures ∙ ap (ofZ w32) (toZ-ofZ fits) ∙ sym (List·getD-map (ofZ w32) (now (a .offsets)) (s .i) (pos 0)) in (
       search needs,
       rw (done .put-number .ensures)
-      (field-written (s .out) (map (ofZ w32) (now (a .offsets))) 4 (a .start) (s .i) (bits .result) (rw length-map (omega arith)) is ∙ s .inv .1),
+          (field-written (s .out) (map (ofZ w32) (now (a .offsets))) 4 (a .start) (s .i) (bits .result) (rw length-map (omega arith)) is ∙ s .inv .1),
       done .put-number .kept .0 ∙ s .inv .2,
     )
 

@@ -52,7 +52,7 @@ loop-again c =
     let s = at .loop in (
       search needs,
       rw (done .put-number .ensures)
-      (field-written (s .out) (now (a .thresholds)) 8 (a .start) (s .i) _ (omega arith) refl ∙ s .inv .1),
+          (field-written (s .out) (now (a .thresholds)) 8 (a .start) (s .i) _ (omega arith) refl ∙ s .inv .1),
       done .put-number .kept .0 ∙ s .inv .2,
     )
 
