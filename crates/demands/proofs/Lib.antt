@@ -1,0 +1,4 @@
+mod Passed
+mod LeapSeconds
+mod OnNaturals
+pub mod Demand3
