@@ -1,4 +1,5 @@
 mod Passed
 mod LeapSeconds
 mod OnNaturals
+mod WayBack
 pub mod Demand3

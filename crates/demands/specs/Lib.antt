@@ -1,1 +1,2 @@
 pub mod TwoInstants
+pub mod OfCalls
