@@ -3,3 +3,4 @@ mod LeapSeconds
 mod OnNaturals
 mod WayBack
 pub mod Demand3
+pub mod EveryExample
