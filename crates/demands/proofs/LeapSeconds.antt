@@ -20,9 +20,9 @@ pub record LeapSeconds (es : List Entry) (k : ℕ → ℕ) : Type 0 where
   pub few : (t : ℕ) → k t ≤ 63
   pub none-on-the-first-day : (t : ℕ) → t < day → k t ≡ 0
   pub rises : (t t′ : ℕ) → t ≤ t′ → k t ≤ k t′
-  pub one-in-a-day : (t t′ : ℕ) → t ≤ t′ → t′ < t + day → k t′ ≤ suc (k t)
-  pub more-by-an-entry : (t t′ : ℕ) → t ≤ t′ → k t < k t′ → Between (drop 1 es) t t′
-  pub an-entry-more : (t t′ : ℕ) → t ≤ t′ → Between (drop 1 es) t t′ → k t < k t′
+  pub one-in-a-day : (t t′ : ℕ) → t′ < t + day → k t′ ≤ suc (k t)
+  pub more-by-an-entry : (t t′ : ℕ) → k t < k t′ → Between (drop 1 es) t t′
+  pub an-entry-more : (t t′ : ℕ) → Between (drop 1 es) t t′ → k t < k t′
 
 -- how many thresholds after the first are at most t
 pub leaps : List Entry → ℕ → ℕ

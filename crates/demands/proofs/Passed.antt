@@ -1,14 +1,14 @@
 -- The offset in force over a regular list is 19 and the number of later thresholds passed; the laws of that number, by induction on the list.
 use mathlib.Core.Path.{_≡_, refl, ap, _∙_}
-use mathlib.Core.Bool.{Bool, true, cond}
+use mathlib.Core.Bool.{true, cond}
 use mathlib.Core.List.{List, [], _∷_, List·Memᴰ, List·Memᴰ·head, List·Memᴰ·tail}
-use Prim.Native.Nat.{ℕ, zero, suc, _+_, _≤_, _<_}
+use Prim.Native.Nat.{ℕ, suc, _+_, _-_, _≤_, _<_}
 use native.Mathlib.Omega.{arith}
-use native.Mathlib.Decide.{decLe}
+use native.Mathlib.Decide.{decLe, decLt}
 use borrow.Author.Tests.{le-leb, lt-leb, leb-true}
 use lib.Dec.{leb, ltb}
 use lib.ListN.{length}
-use lib.IntN.{ℤ, pos, _+ℤ_}
+use lib.IntN.{pos, _+ℤ_}
 use Rattle.tables.specs.Entries.{Entry, threshold, offset, equal, neighbours, follows, aDayOn, day, lastUpTo}
 use Rattle.tables.proofs.Integers.{equal-true}
 use Rattle.tables.proofs.Neighbours.{both}
@@ -27,81 +27,36 @@ chain p (e ∷ es) f d =
     let more = both (ltb (threshold p) (threshold e)) (equal (offset e) (offset p +ℤ pos 1)) (f2 .0) .1 in
     (leb-true (threshold p + day) (threshold e) (d2 .0), equal-true _ _ more, chain e es (f2 .1) (d2 .1))
 
--- one threshold passed at t, or none
-one : Entry → ℕ → ℕ
-one e t = cond (leb (threshold e) t) 1 0
-
--- how many thresholds are at most t
+-- how many thresholds are at most t: `1 - (x - t)` is 1 if x ≤ t, and else 0
 pub passed : List Entry → ℕ → ℕ
 passed [] t = 0
-passed (e ∷ es) t = one e t + passed es t
-
-module _ (e : Entry) (t : ℕ) where
-  reached : threshold e ≤ t → one e t ≡ 1
-  unfolding one
-  reached h = rw (le-leb (threshold e) t h)
-
-  ahead : t < threshold e → one e t ≡ 0
-  unfolding one
-  ahead h = rw (lt-leb (threshold e) t h)
-
--- whether e is passed at t and at a later reading
-data Case (e : Entry) (t t′ : ℕ) : Type 0 where
-  before : threshold e ≤ t → one e t ≡ 1 → one e t′ ≡ 1 → Case e t t′
-  between : t < threshold e → threshold e ≤ t′ → one e t ≡ 0 → one e t′ ≡ 1 → Case e t t′
-  after : t′ < threshold e → one e t ≡ 0 → one e t′ ≡ 0 → Case e t t′
-
-case : (e : Entry) (t t′ : ℕ) → t ≤ t′ → Case e t t′
-case e t t′ l = go (decLe (threshold e) t) (decLe (threshold e) t′)
-  where
-    go : Dec (threshold e ≤ t) → Dec (threshold e ≤ t′) → Case e t t′
-    go (yes h) d = before h (reached e t h) (reached e t′ (omega arith))
-    go (no h) (yes h′) = let a : t < threshold e = omega (arith, h) in between a h′ (ahead e t a) (reached e t′ h′)
-    go (no h) (no h′) = let a : t′ < threshold e = omega (arith, h′) in after a (ahead e t (omega arith)) (ahead e t′ a)
-
-at-most-one : (e : Entry) (t : ℕ) → one e t ≤ 1
-at-most-one e t = go (case e t t (omega arith))
-  where
-    go : Case e t t → one e t ≤ 1
-    go (before h a b) = omega arith
-    go (between h h′ a b) = omega arith
-    go (after h a b) = omega arith
-
-one-rises : (e : Entry) (t t′ : ℕ) → t ≤ t′ → one e t ≤ one e t′
-one-rises e t t′ l = go (case e t t′ l)
-  where
-    go : Case e t t′ → one e t ≤ one e t′
-    go (before h a b) = omega arith
-    go (between h h′ a b) = omega arith
-    go (after h a b) = omega arith
+passed (e ∷ es) t = 1 - (threshold e - t) + passed es t
 
 pub few : (es : List Entry) (t : ℕ) → passed es t ≤ length es
 unfolding passed
 few [] t = omega arith
-few (e ∷ es) t = omega (arith, at-most-one e t, few es t)
+few (e ∷ es) t = omega (arith, few es t)
 
 pub rises : (es : List Entry) (t t′ : ℕ) → t ≤ t′ → passed es t ≤ passed es t′
 unfolding passed
 rises [] t t′ l = omega arith
-rises (e ∷ es) t t′ l = omega (arith, one-rises e t t′ l, rises es t t′ l)
+rises (e ∷ es) t t′ l = omega (arith, rises es t t′ l)
 
 -- within a day of the entry before them none is passed
 pub none-within-a-day : (p : Entry) (es : List Entry) (t : ℕ) → Chain p es → t < threshold p + day → passed es t ≡ 0
 unfolding passed
 none-within-a-day p [] t c l = refl
-none-within-a-day p (e ∷ es) t c l =
-    omega (arith, ahead e t (omega arith), none-within-a-day e es t (c .2) (omega arith))
+none-within-a-day p (e ∷ es) t c l = omega (arith, none-within-a-day e es t (c .2) (omega arith))
 
 -- within a day at most one is passed
-pub one-in-a-day : (p : Entry) (es : List Entry) (t t′ : ℕ) → Chain p es → t ≤ t′ → t′ < t + day → passed es t′ ≤ suc (passed es t)
+pub one-in-a-day : (p : Entry) (es : List Entry) (t t′ : ℕ) → Chain p es → t′ < t + day → passed es t′ ≤ suc (passed es t)
 unfolding passed
-one-in-a-day p [] t t′ c l m = omega arith
-one-in-a-day p (e ∷ es) t t′ c l m = go (case e t t′ l) (one-in-a-day e es t t′ (c .2) l m)
+one-in-a-day p [] t t′ c l = omega arith
+one-in-a-day p (e ∷ es) t t′ c l = go (decLt t (threshold e)) (one-in-a-day e es t t′ (c .2) l)
   where
-    go : Case e t t′ → passed es t′ ≤ suc (passed es t) → one e t′ + passed es t′ ≤ suc (one e t + passed es t)
-    go (before h a b) r = omega arith
-    go (between h h′ a b) r = omega (arith, none-within-a-day e es t′ (c .2) (omega arith))
-    go (after h a b) r = omega arith
+    go : Dec (t < threshold e) → passed es t′ ≤ suc (passed es t) → passed (e ∷ es) t′ ≤ suc (passed (e ∷ es) t)
+    go (yes h) r = omega (arith, none-within-a-day e es t′ (c .2) (omega arith))
+    go (no h) r = omega (arith, h)
 
 -- an entry whose threshold is passed after t and by t′
 pub record Between (es : List Entry) (t t′ : ℕ) : Type 0 where
@@ -110,34 +65,31 @@ pub record Between (es : List Entry) (t t′ : ℕ) : Type 0 where
   pub after : t < threshold entry
   pub by : threshold entry ≤ t′
 
-pub more-by-an-entry : (es : List Entry) (t t′ : ℕ) → t ≤ t′ → passed es t < passed es t′ → Between es t t′
+pub more-by-an-entry : (es : List Entry) (t t′ : ℕ) → passed es t < passed es t′ → Between es t t′
 unfolding passed
-more-by-an-entry [] t t′ l m = absurd (none m)
+more-by-an-entry [] t t′ m = absurd (none m)
   where
     none : 0 < 0 → ⊥
     none l = omega arith
-more-by-an-entry (e ∷ es) t t′ l m = go (case e t t′ l) (more-by-an-entry es t t′ l)
+more-by-an-entry (e ∷ es) t t′ m = go (decLt t (threshold e)) (decLe (threshold e) t′) (more-by-an-entry es t t′)
   where
     behind : Between es t t′ → Between (e ∷ es) t t′
-    behind b =
-        record { entry = b .entry; among = List·Memᴰ·tail (b .among); after = b .after; by = b .by }
+    behind b = record { entry = b .entry; among = List·Memᴰ·tail (b .among); after = b .after; by = b .by }
 
-    go : Case e t t′ → (passed es t < passed es t′ → Between es t t′) → Between (e ∷ es) t t′
-    go (before h a b) r = behind (r (omega arith))
-    go (between h h′ a b) r = record { entry = e; among = List·Memᴰ·head refl; after = h; by = h′ }
-    go (after h a b) r = behind (r (omega arith))
+    go : Dec (t < threshold e) → Dec (threshold e ≤ t′) → (passed es t < passed es t′ → Between es t t′) → Between (e ∷ es) t t′
+    go (yes h) (yes h′) r = record { entry = e; among = List·Memᴰ·head refl; after = h; by = h′ }
+    go (yes h) (no h′) r = behind (r (omega (arith, h′)))
+    go (no h) d r = behind (r (omega (arith, h)))
 
-pub an-entry-more : (es : List Entry) (t t′ : ℕ) → t ≤ t′ → Between es t t′ → passed es t < passed es t′
+pub an-entry-more : (es : List Entry) (t t′ : ℕ) → Between es t t′ → passed es t < passed es t′
 unfolding passed
-an-entry-more es t t′ l b = go es (b .among)
+an-entry-more es t t′ b = go es (b .among)
   where
     go : (es : List Entry) → List·Memᴰ (b .entry) es → passed es t < passed es t′
-    go (e ∷ es) (List·Memᴰ·head q) =
-        let same = ap threshold q in
-        omega (arith, ahead e t (omega (arith, b .after)), reached e t′ (omega (arith, b .by)), rises es t t′ l)
-    go (e ∷ es) (List·Memᴰ·tail m) = omega (arith, go es m, one-rises e t t′ l)
+    go (e ∷ es) (List·Memᴰ·head q) = omega (arith, ap threshold q, b .after, b .by, rises es t t′ (omega (arith, b .after, b .by)))
+    go (e ∷ es) (List·Memᴰ·tail m) = omega (arith, b .after, b .by, go es m)
 
--- the last entry up to t has the offset of p and one for each that is passed
+-- behind p, at a reading before it, no entry is found
 none-found : (p f : Entry) (es : List Entry) (t : ℕ) → Chain p es → t < threshold p → lastUpTo t f es ≡ f
 unfolding lastUpTo
 none-found p f [] t c l = refl
@@ -145,6 +97,7 @@ none-found p f (e ∷ es) t c l =
     let a : t < threshold e = omega arith in
     rw (lt-leb (threshold e) t a) (none-found e f es t (c .2) a)
 
+-- the last entry up to t has the offset of p and one for each that is passed
 pub last-offset : (p : Entry) (es : List Entry) (t n : ℕ) → Chain p es → offset p ≡ pos n → offset (lastUpTo t p es) ≡ pos (n + passed es t)
 unfolding lastUpTo passed
 last-offset p [] t n c o = o ∙ ap pos (omega arith)
@@ -152,9 +105,9 @@ last-offset p (e ∷ es) t n c o =
     go (decLe (threshold e) t) (last-offset e es t (suc n) (c .2) (c .1 ∙ rw o (ap pos (omega arith))))
   where
     go : Dec (threshold e ≤ t) → offset (lastUpTo t e es) ≡ pos (suc n + passed es t)
-        → offset (lastUpTo t (cond (leb (threshold e) t) e p) es) ≡ pos (n + (one e t + passed es t))
-    go (yes h) r = rw (le-leb (threshold e) t h) (r ∙ ap pos (omega (arith, reached e t h)))
+        → offset (lastUpTo t (cond (leb (threshold e) t) e p) es) ≡ pos (n + passed (e ∷ es) t)
+    go (yes h) r = rw (le-leb (threshold e) t h) (r ∙ ap pos (omega arith))
     go (no h) r =
         let a : t < threshold e = omega (arith, h) in
         let none = none-within-a-day e es t (c .2) (omega arith) in
-        rw (lt-leb (threshold e) t a) (ap offset (none-found e p es t (c .2) a) ∙ o ∙ ap pos (omega (arith, ahead e t a)))
+        rw (lt-leb (threshold e) t a) (ap offset (none-found e p es t (c .2) a) ∙ o ∙ ap pos (omega arith))

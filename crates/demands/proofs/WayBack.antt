@@ -1,6 +1,6 @@
 -- The way back over a regular list: a third lookup would find no more than the second, so the answer is the earliest count; and two counts that share a UTC count are a leap second apart.
 use mathlib.Core.Path.{_≡_, sym, ap, _∙_, subst}
-use mathlib.Core.Logic.{_↔_, _≢_}
+use mathlib.Core.Logic.{_≢_}
 use mathlib.Core.Bool.{true}
 use mathlib.Core.List.{List}
 use Prim.Native.Nat.{ℕ, suc, _+_, _*_, _-_, _^_, _≤_, _<_}
@@ -11,7 +11,7 @@ use Rattle.refusals.specs.Outcome.{Outcome, answered, refused}
 use Rattle.counts.specs.Units.{second}
 use Rattle.tables.specs.Entries.{Entry, regular}
 use Rattle.conversions.specs.Conversions.{E, gpsToUtc, utcToGps}
-use Rattle.demands.specs.TwoInstants.{Converts, Earliest, InFirstSecond, Refused, TwoInstants}
+use Rattle.demands.specs.TwoInstants.{Converts, Earliest, Refused, RefusedExactly, AnswersTheEarliest, SharedExactly, AtMostTwo, TwoInstants}
 use Rattle.demands.proofs.Passed.{Between}
 use Rattle.demands.proofs.LeapSeconds.{LeapSeconds, leaps, counted}
 use Rattle.demands.proofs.OnNaturals.{tai, Reads, to-utc, from-gps, before-E, from-E, a, b}
@@ -66,7 +66,7 @@ module _ (es : List Entry) (k : ℕ → ℕ) (f : LeapSeconds es k) where
         go : Dec (k next ≤ k first) → k next ≤ 63 → k first ≤ k next → k (tai back) ≡ k next
         go (yes h) few up = ap k (omega arith)
         go (no h) few up =
-            omega (arith, h, f .rises next (tai back) (omega arith), f .one-in-a-day first (tai back) (omega arith) (omega arith))
+            omega (arith, h, f .rises next (tai back) (omega arith), f .one-in-a-day first (tai back) (omega arith))
 
     earliest : Earliest (gpsToUtc es) back u
     earliest =
@@ -86,7 +86,7 @@ module _ (es : List Entry) (k : ℕ → ℕ) (f : LeapSeconds es k) where
   answered-from-E : (u : ℕ) → E ≤ u → u < 2 ^ 64 → (g : ℕ) × (utcToGps es u ≡ answered g) × Earliest (gpsToUtc es) g u
   answered-from-E u l m = (back u l m, from-E es k f u l m, earliest u l m)
 
-  refused-exactly : (u : ℕ) → u < 2 ^ 64 → Refused (utcToGps es u) ↔ ((g : ℕ) → There g u → ⊥)
+  refused-exactly : RefusedExactly (gpsToUtc es) (utcToGps es)
   refused-exactly u m = (none, go (decLe E u))
     where
       none : Refused (utcToGps es u) → (g : ℕ) → There g u → ⊥
@@ -96,7 +96,7 @@ module _ (es : List Entry) (k : ℕ → ℕ) (f : LeapSeconds es k) where
       go (yes h) n = let (g, e, c) = answered-from-E u h m in absurd (n g (c .converts))
       go (no h) n = (1, before-E es k f u (omega (arith, h)))
 
-  answers-the-earliest : (u g : ℕ) → u < 2 ^ 64 → (utcToGps es u ≡ answered g) ↔ Earliest (gpsToUtc es) g u
+  answers-the-earliest : AnswersTheEarliest (gpsToUtc es) (utcToGps es)
   answers-the-earliest u g m = (go (decLe E u), only)
     where
       go : Dec (E ≤ u) → utcToGps es u ≡ answered g → Earliest (gpsToUtc es) g u
@@ -116,25 +116,21 @@ module _ (es : List Entry) (k : ℕ → ℕ) (f : LeapSeconds es k) where
       let r₁ = reads c₁ .exact in
       let r₂ = reads c₂ .exact in
       let few = f .few (tai g₂) in
-      let one = f .one-in-a-day (tai g₁) (tai g₂) (omega arith) (omega arith) in
+      let one = f .one-in-a-day (tai g₁) (tai g₂) (omega arith) in
       (omega arith, omega arith)
 
-  shared-exactly : (g₁ g₂ u₁ u₂ : ℕ) → There g₁ u₁ → There g₂ u₂ → g₁ < g₂
-      → (u₁ ≡ u₂) ↔ ((g₂ ≡ g₁ + second) × InFirstSecond es (tai g₂))
-  shared-exactly g₁ g₂ u₁ u₂ c₁ c₂ l = (inserted, shared)
-    where
-      inserted : u₁ ≡ u₂ → (g₂ ≡ g₁ + second) × InFirstSecond es (tai g₂)
-      inserted e =
+  shared-exactly : SharedExactly es (gpsToUtc es)
+  shared-exactly g₁ g₂ u₁ u₂ c₁ c₂ l =
+      (λ e.
           let (d, more) = apart g₁ g₂ u₂ (subst (λ (u : ℕ). There g₁ u) e c₁) c₂ l in
-          let i = f .more-by-an-entry (tai g₁) (tai g₂) (omega arith) more in
-          (d, record { entry = i .entry; later = i .among; begun = i .by; within = omega (arith, i .after) })
-
-      shared : (g₂ ≡ g₁ + second) × InFirstSecond es (tai g₂) → u₁ ≡ u₂
-      shared (d, i) =
-          let between : Between (drop 1 es) (tai g₁) (tai g₂) = record { entry = i .entry; among = i .later; after = omega (arith, i .within); by = i .begun } in
-          let more = f .an-entry-more (tai g₁) (tai g₂) (omega arith) between in
-          let one = f .one-in-a-day (tai g₁) (tai g₂) (omega arith) (omega arith) in
-          omega (arith, reads c₁ .exact, reads c₂ .exact)
+          let i = f .more-by-an-entry (tai g₁) (tai g₂) more in
+          (omega arith, record { entry = i .entry; later = i .among; begun = omega (arith, i .by); within = omega (arith, i .after) }),
+      λ (d, i).
+          let between : Between (drop 1 es) (tai g₁) (tai g₂) =
+          record { entry = i .entry; among = i .later; after = omega (arith, i .within); by = omega (arith, i .begun) } in
+          let more = f .an-entry-more (tai g₁) (tai g₂) between in
+          let one = f .one-in-a-day (tai g₁) (tai g₂) (omega arith) in
+          omega (arith, reads c₁ .exact, reads c₂ .exact))
 
   -- whichever of two different counts is the later
   a-second : (g₁ g₂ u : ℕ) → There g₁ u → There g₂ u → g₁ ≢ g₂ → distance g₁ g₂ ≡ second
@@ -144,7 +140,7 @@ module _ (es : List Entry) (k : ℕ → ℕ) (f : LeapSeconds es k) where
       go (yes h) = omega (arith, apart g₁ g₂ u c₁ c₂ h .0)
       go (no h) = omega (arith, apart g₂ g₁ u c₂ c₁ (omega (arith, h, n)) .0)
 
-  at-most-two : (g₁ g₂ g₃ u : ℕ) → There g₁ u → There g₂ u → There g₃ u → g₁ ≢ g₂ → g₂ ≢ g₃ → g₁ ≢ g₃ → ⊥
+  at-most-two : AtMostTwo (gpsToUtc es)
   at-most-two g₁ g₂ g₃ u c₁ c₂ c₃ n₁ n₂ n₃ =
       no-three g₁ g₂ g₃ (a-second g₁ g₂ u c₁ c₂ n₁) (a-second g₂ g₃ u c₂ c₃ n₂) (a-second g₁ g₃ u c₁ c₃ n₃)
 

@@ -11,7 +11,7 @@ use Rattle.counts.specs.Units.{second}
 use Rattle.scales.specs.Scales.{taiMinusGps}
 use Rattle.tables.specs.Entries.{Entry, threshold}
 
--- the GPS count g converts to the UTC count u
+-- the GPS count g, of 64 bits, converts to the UTC count u
 pub record Converts (there : ℕ → Outcome ℕ) (g u : ℕ) : Type 0 where
   pub count : g < 2 ^ 64
   pub gives : there g ≡ answered u
@@ -32,14 +32,29 @@ pub record InFirstSecond (es : List Entry) (t : ℕ) : Type 0 where
 abbrev pub Refused : Outcome ℕ → Type 0
 Refused o = (k : ℕ) × (o ≡ refused k)
 
+-- 1. The way back is refused exactly if no GPS count converts to u.
+abbrev pub RefusedExactly : (there back : ℕ → Outcome ℕ) → Type 0
+RefusedExactly there back = (u : ℕ) → u < 2 ^ 64 → Refused (back u) ↔ ((g : ℕ) → Converts there g u → ⊥)
+
+-- 2. It answers g exactly if g is the earliest GPS count that converts to u. So g converts to u again.
+abbrev pub AnswersTheEarliest : (there back : ℕ → Outcome ℕ) → Type 0
+AnswersTheEarliest there back = (u g : ℕ) → u < 2 ^ 64 → (back u ≡ answered g) ↔ Earliest there g u
+
+-- 3. Two GPS counts share a UTC count exactly if they are one second apart and the TAI reading of the later one lies in such a first second.
+abbrev pub SharedExactly : List Entry → (there : ℕ → Outcome ℕ) → Type 0
+SharedExactly es there =
+    (g₁ g₂ u₁ u₂ : ℕ) → Converts there g₁ u₁ → Converts there g₂ u₂ → g₁ < g₂
+    → (u₁ ≡ u₂) ↔ ((g₂ ≡ g₁ + second) × InFirstSecond es (g₂ + taiMinusGps))
+
+-- 4. No three different GPS counts share a UTC count.
+abbrev pub AtMostTwo : (there : ℕ → Outcome ℕ) → Type 0
+AtMostTwo there =
+    (g₁ g₂ g₃ u : ℕ) → Converts there g₁ u → Converts there g₂ u → Converts there g₃ u
+    → g₁ ≢ g₂ → g₂ ≢ g₃ → g₁ ≢ g₃ → ⊥
+
+-- all four
 pub record TwoInstants (es : List Entry) (there back : ℕ → Outcome ℕ) : Type 0 where
-  -- the way back is refused exactly if no GPS count converts to u
-  pub refused-exactly : (u : ℕ) → u < 2 ^ 64 → Refused (back u) ↔ ((g : ℕ) → Converts there g u → ⊥)
-  -- it answers g exactly if g is the earliest GPS count that converts to u
-  pub answers-the-earliest : (u g : ℕ) → u < 2 ^ 64 → (back u ≡ answered g) ↔ Earliest there g u
-  -- two GPS counts share a UTC count exactly if they are a second apart and the later one lies in the first second from a later threshold
-  pub shared-exactly : (g₁ g₂ u₁ u₂ : ℕ) → Converts there g₁ u₁ → Converts there g₂ u₂ → g₁ < g₂
-      → (u₁ ≡ u₂) ↔ ((g₂ ≡ g₁ + second) × InFirstSecond es (g₂ + taiMinusGps))
-  -- no three different counts share one
-  pub at-most-two : (g₁ g₂ g₃ u : ℕ) → Converts there g₁ u → Converts there g₂ u → Converts there g₃ u
-      → g₁ ≢ g₂ → g₂ ≢ g₃ → g₁ ≢ g₃ → ⊥
+  pub refused-exactly : RefusedExactly there back
+  pub answers-the-earliest : AnswersTheEarliest there back
+  pub shared-exactly : SharedExactly es there
+  pub at-most-two : AtMostTwo there
