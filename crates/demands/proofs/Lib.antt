@@ -1,0 +1,7 @@
+mod Passed
+mod LeapSeconds
+mod OnNaturals
+mod WayBack
+mod OnCounts
+pub mod Demand3
+pub mod EveryExample

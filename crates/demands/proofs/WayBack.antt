@@ -1,0 +1,156 @@
+-- The way back over a regular list: a third lookup would find no more than the second, so the answer is the earliest count; and two counts that share a UTC count are a leap second apart.
+use mathlib.Core.Path.{_≡_, sym, ap, _∙_, subst}
+use mathlib.Core.Logic.{_≢_}
+use mathlib.Core.Bool.{true}
+use mathlib.Core.List.{List}
+use Prim.Native.Nat.{ℕ, suc, _+_, _*_, _-_, _^_, _≤_, _<_}
+use native.Mathlib.Omega.{arith}
+use native.Mathlib.Decide.{decLe, decLt}
+use lib.ListN.{drop}
+use Rattle.refusals.specs.Outcome.{Outcome, answered, refused}
+use Rattle.counts.specs.Units.{second}
+use Rattle.tables.specs.Entries.{Entry, regular}
+use Rattle.conversions.specs.Conversions.{E, gpsToUtc, utcToGps}
+use Rattle.demands.specs.TwoInstants.{Converts, Earliest, Refused, RefusedExactly, AnswersTheEarliest, SharedExactly, AtMostTwo, TwoInstants}
+use Rattle.demands.proofs.Passed.{Between}
+use Rattle.demands.proofs.LeapSeconds.{LeapSeconds, leaps, counted}
+use Rattle.demands.proofs.OnNaturals.{tai, Reads, to-utc, from-gps, before-E, from-E, a, b}
+
+clash : {g k : ℕ} (o : Outcome ℕ) → o ≡ answered g → o ≡ refused k → ⊥
+clash o p q = let z : _≡_ {A = ℕ} 0 1 = cc in omega arith
+
+same : {g h : ℕ} (o : Outcome ℕ) → o ≡ answered g → o ≡ answered h → g ≡ h
+same o p q = cc
+
+-- how far two numbers lie apart
+abbrev distance : ℕ → ℕ → ℕ
+distance m n = (m - n) + (n - m)
+
+-- three numbers do not all lie a second apart
+no-three : (x y z : ℕ) → distance x y ≡ second → distance y z ≡ second → distance x z ≡ second → ⊥
+no-three x y z p q r = omega arith
+
+module _ (es : List Entry) (k : ℕ → ℕ) (f : LeapSeconds es k) where
+  abbrev There : ℕ → ℕ → Type 0
+  There g u = Converts (gpsToUtc es) g u
+
+  reads : {g u : ℕ} → There g u → Reads es k f g u
+  reads {g} {u} c = from-gps es k f g u (c .gives)
+
+  -- no count converts to a UTC count before E
+  not-before-E : (g u : ℕ) → There g u → E ≤ u
+  not-before-E g u c = go (decLe E u) (reads c)
+    where
+      go : Dec (E ≤ u) → Reads es k f g u → E ≤ u
+      go (yes h) r = h
+      go (no h) r =
+          let few = f .few (tai g) in
+          let none = f .none-on-the-first-day (tai g) (omega (arith, r .exact, h)) in
+          omega (arith, r .exact)
+
+  -- what the way back answers from E on: the first reading and the leap seconds up to the second
+  module _ (u : ℕ) (l : E ≤ u) (m : u < 2 ^ 64) where
+    abbrev first : ℕ
+    first = a es k f u
+
+    abbrev next : ℕ
+    next = b es k f u
+
+    abbrev back : ℕ
+    back = u - E + k next * second
+
+    -- a third reading would find no more leap seconds
+    settled : k (tai back) ≡ k next
+    settled = go (decLe (k next) (k first)) (f .few next) (f .rises first next (omega arith))
+      where
+        go : Dec (k next ≤ k first) → k next ≤ 63 → k first ≤ k next → k (tai back) ≡ k next
+        go (yes h) few up = ap k (omega arith)
+        go (no h) few up =
+            omega (arith, h, f .rises next (tai back) (omega arith), f .one-in-a-day first (tai back) (omega arith))
+
+    earliest : Earliest (gpsToUtc es) back u
+    earliest =
+        let few = f .few next in
+        record {
+          converts = record {
+            count = omega arith;
+            gives = to-utc es k f back u (record { tai-fits = omega arith; utc-fits = m; exact = omega (arith, settled) });
+          };
+          first = λ g c.
+              let r = reads c in
+              let from-first = f .rises first (tai g) (omega (arith, r .exact)) in
+              let from-next = f .rises next (tai g) (omega (arith, r .exact)) in
+              omega (arith, r .exact);
+        }
+
+  answered-from-E : (u : ℕ) → E ≤ u → u < 2 ^ 64 → (g : ℕ) × (utcToGps es u ≡ answered g) × Earliest (gpsToUtc es) g u
+  answered-from-E u l m = (back u l m, from-E es k f u l m, earliest u l m)
+
+  refused-exactly : RefusedExactly (gpsToUtc es) (utcToGps es)
+  refused-exactly u m = (none, go (decLe E u))
+    where
+      none : Refused (utcToGps es u) → (g : ℕ) → There g u → ⊥
+      none r g c = clash (utcToGps es u) (answered-from-E u (not-before-E g u c) m .1) (r .1)
+
+      go : Dec (E ≤ u) → ((g : ℕ) → There g u → ⊥) → Refused (utcToGps es u)
+      go (yes h) n = let (g, e, c) = answered-from-E u h m in absurd (n g (c .converts))
+      go (no h) n = (1, before-E es k f u (omega (arith, h)))
+
+  answers-the-earliest : AnswersTheEarliest (gpsToUtc es) (utcToGps es)
+  answers-the-earliest u g m = (go (decLe E u), only)
+    where
+      go : Dec (E ≤ u) → utcToGps es u ≡ answered g → Earliest (gpsToUtc es) g u
+      go (yes h) e =
+          let (g₀, e₀, c) = answered-from-E u h m in
+          subst (λ (n : ℕ). Earliest (gpsToUtc es) n u) (same (utcToGps es u) e₀ e) c
+      go (no h) e = absurd (clash (utcToGps es u) e (before-E es k f u (omega (arith, h))))
+
+      only : Earliest (gpsToUtc es) g u → utcToGps es u ≡ answered g
+      only c =
+          let (g₀, e₀, c₀) = answered-from-E u (not-before-E g u (c .converts)) m in
+          e₀ ∙ ap answered (omega (arith, c .first g₀ (c₀ .converts), c₀ .first g (c .converts)))
+
+  -- two that share a UTC count: the later one is a second and a leap second on
+  apart : (g₁ g₂ u : ℕ) → There g₁ u → There g₂ u → g₁ < g₂ → (g₂ ≡ g₁ + second) × (k (tai g₁) < k (tai g₂))
+  apart g₁ g₂ u c₁ c₂ l =
+      let r₁ = reads c₁ .exact in
+      let r₂ = reads c₂ .exact in
+      let few = f .few (tai g₂) in
+      let one = f .one-in-a-day (tai g₁) (tai g₂) (omega arith) in
+      (omega arith, omega arith)
+
+  shared-exactly : SharedExactly es (gpsToUtc es)
+  shared-exactly g₁ g₂ u₁ u₂ c₁ c₂ l =
+      (λ e.
+          let (d, more) = apart g₁ g₂ u₂ (subst (λ (u : ℕ). There g₁ u) e c₁) c₂ l in
+          let i = f .more-by-an-entry (tai g₁) (tai g₂) more in
+          (omega arith, record { entry = i .entry; later = i .among; begun = omega (arith, i .by); within = omega (arith, i .after) }),
+      λ (d, i).
+          let between : Between (drop 1 es) (tai g₁) (tai g₂) =
+          record { entry = i .entry; among = i .later; after = omega (arith, i .within); by = omega (arith, i .begun) } in
+          let more = f .an-entry-more (tai g₁) (tai g₂) between in
+          let one = f .one-in-a-day (tai g₁) (tai g₂) (omega arith) in
+          omega (arith, reads c₁ .exact, reads c₂ .exact))
+
+  -- whichever of two different counts is the later
+  a-second : (g₁ g₂ u : ℕ) → There g₁ u → There g₂ u → g₁ ≢ g₂ → distance g₁ g₂ ≡ second
+  a-second g₁ g₂ u c₁ c₂ n = go (decLt g₁ g₂)
+    where
+      go : Dec (g₁ < g₂) → distance g₁ g₂ ≡ second
+      go (yes h) = omega (arith, apart g₁ g₂ u c₁ c₂ h .0)
+      go (no h) = omega (arith, apart g₂ g₁ u c₂ c₁ (omega (arith, h, n)) .0)
+
+  at-most-two : AtMostTwo (gpsToUtc es)
+  at-most-two g₁ g₂ g₃ u c₁ c₂ c₃ n₁ n₂ n₃ =
+      no-three g₁ g₂ g₃ (a-second g₁ g₂ u c₁ c₂ n₁) (a-second g₂ g₃ u c₂ c₃ n₂) (a-second g₁ g₃ u c₁ c₃ n₃)
+
+pub by-a-regular-list : (es : List Entry) → regular es ≡ true → TwoInstants es (gpsToUtc es) (utcToGps es)
+by-a-regular-list es r =
+    let k = leaps es in
+    let f = counted es r in
+    record {
+      refused-exactly = refused-exactly es k f;
+      answers-the-earliest = answers-the-earliest es k f;
+      shared-exactly = shared-exactly es k f;
+      at-most-two = at-most-two es k f;
+    }

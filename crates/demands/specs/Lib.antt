@@ -1,0 +1,3 @@
+pub mod TwoInstants
+pub mod OfCalls
+pub mod Examples
