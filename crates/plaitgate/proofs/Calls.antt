@@ -3,7 +3,7 @@ use mathlib.Core.Path.{_≡_, sym, ap, _∙_}
 use mathlib.Core.List.{List}
 use Prim.Native.Nat.{ℕ}
 use denote.Ref.{now}
-use Rattle.refusals.proofs.OneAnswer.{OneAnswer, OneAnswerAndEnd, both}
+use Rattle.refusals.proofs.OneAnswer.{OneAnswerAndEnd, both}
 use Rattle.counts.specs.declared.units.DurationParts.{DurationParts}
 use Rattle.calendar.specs.Calendar.{on}
 use Rattle.plaitgate.specs.Civil.{fields}
@@ -108,7 +108,6 @@ use Rattle.plaitgate.proofs.leap_tables.plaitgate_table_new.Reads as ta
 use Rattle.plaitgate.proofs.leap_tables.plaitgate_table_from_builtin.Reads as table-from-builtin-contract
 use Rattle.plaitgate.proofs.leap_tables.plaitgate_table_from_entries.Reads as table-from-entries-contract
 use Rattle.plaitgate.proofs.leap_tables.plaitgate_table_try_extend.Reads as table-try-extend-contract
-use Rattle.plaitgate.proofs.leap_tables.table_of_image.Reads as table-of-image-contract
 
 abbrev parts-of : ℕ → ℕ → DurationParts
 parts-of s n = record { seconds = s; nanos = n }
@@ -410,6 +409,3 @@ table-from-entries κ a x y e f p q = left-one p q
 
 pub table-try-extend : OneAnswerAndEnd table-try-extend-contract.Post (λ κ e. now (e .0))
 table-try-extend κ a x y e f p q = left-one p q
-
-pub table-of-image : OneAnswer table-of-image-contract.Post
-table-of-image κ a x y e f p q = p ∙ sym q

@@ -6,7 +6,7 @@ ghost use Rattle.tables.specs.Slots.{entriesOf, ofValid};
 ghost use Rattle.conversions.specs.Conversions.{gpsToUtc, utcToGps, glonassToGps, gpsToGlonass, unixToGps, gpsToUnix};
 ghost use Rattle.plaitgate.specs.Tables.{tableOfImage};
 use crate::give;
-use crate::leap_tables::table_of_image;
+use crate::take::table_of_image;
 use scales::glonass::Glonass;
 use scales::gps::Gps;
 use scales::utc::Utc;

@@ -12,25 +12,10 @@ ghost use Rattle.images.specs.Image.{imageWritten, imageExtended};
 ghost use Rattle.builtin.specs.Builtin.{builtin};
 ghost use Rattle.plaitgate.specs.Tables.{tableOfImage, leaves, imageBuilt, changed, bit, foundAs, foundEntry, foundCount};
 use crate::give;
+use crate::take::table_of_image;
 use scales::tai::Tai;
 use tables::LeapTable;
 use tables::Taken;
-
-// The table of an image. Bytes of another size than an image's are no valid table.
-pub fn table_of_image(image: &[u8]) -> LeapTable
-    ensures { λ r. ⌜ r ≡ tableOfImage (now (image .entry)) ⌝ }
-{
-    let read = images::read(image);
-    let answer = read.answer;
-    match answer {
-        Taken::Done => read.table,
-        Taken::Refused(_) => LeapTable {
-            thresholds: [0u64; 64],
-            offsets: [0i32; 64],
-            len: 65,
-        },
-    }
-}
 
 #[no_mangle]
 pub extern "C" fn plaitgate_table_new(image: &mut [u8]) -> u32

@@ -8,8 +8,8 @@ use Rattle.tables.proofs.RefusalNumbers.{number-not-zero}
 use Rattle.images.specs.Image.{sized, tableIn}
 use Rattle.plaitgate.specs.Tables.{noTable}
 use Rattle.plaitgate.proofs.ImageTables.{read, not-read}
-use Rattle.plaitgate.proofs.leap_tables.table_of_image.Statement.{statement}
-use Rattle.plaitgate.proofs.leap_tables.table_of_image.Tie as tie
+use Rattle.plaitgate.proofs.take.table_of_image.Statement.{statement}
+use Rattle.plaitgate.proofs.take.table_of_image.Tie as tie
 
 read-requires : tie.Need-read-requires
 read-requires c κs = search needs
