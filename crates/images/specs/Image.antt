@@ -30,15 +30,22 @@ unfoldable pub bytesOfAll : ℕ → List ℕ → List ℕ
 bytesOfAll k [] = []
 bytesOfAll k (n ∷ ns) = bytesOf k n ++ bytesOfAll k ns
 
--- an image: a length of 8 bytes, 64 thresholds of 8, 64 offsets of 4
+-- where the offsets of an image begin: behind a length of 8 bytes and 64 thresholds of 8
+abbrev pub offsetsAt : ℕ
+offsetsAt = 8 + 64 * 8
+
+-- and where they end, 64 of 4 bytes: 776
+abbrev pub imageBytes : ℕ
+imageBytes = offsetsAt + 64 * 4
+
 abbrev pub sized : List ℕ → Bool
-sized b = eqb (length b) 776
+sized b = eqb (length b) imageBytes
 
 -- the table that an image holds; an offset is the number whose two's complement its 4 bytes are
 unfoldable pub tableIn : List ℕ → LeapTable
 tableIn b = record {
   thresholds = numbersIn 8 8 64 (drop 8 b);
-  offsets = map (toZ w32) (numbersIn 4 4 64 (drop 520 b));
+  offsets = map (toZ w32) (numbersIn 4 4 64 (drop offsetsAt b));
   len = numberIn (take 8 b);
 }
 

@@ -1,5 +1,5 @@
--- `extend` meets its contract.
-use mathlib.Core.Path.{_≡_, sym, ap, _∙_}
+-- `extend` stores the table of an accepted extension, and nothing on a refusal.
+use mathlib.Core.Path.{_≡_, ap, _∙_}
 use mathlib.Core.List.{List}
 use Prim.Native.Nat.{ℕ}
 use denote.Ref.{now}
