@@ -38,6 +38,7 @@ offsetsAt = 8 + 64 * 8
 abbrev pub imageBytes : ℕ
 imageBytes = offsetsAt + 64 * 4
 
+-- these bytes are an image
 abbrev pub sized : List ℕ → Bool
 sized b = eqb (length b) imageBytes
 
@@ -49,6 +50,7 @@ tableIn b = record {
   len = numberIn (take 8 b);
 }
 
+-- the image of a table
 unfoldable pub imageOf : LeapTable → List ℕ
 imageOf t = bytesOf 8 (t .len) ++ bytesOfAll 8 (t .thresholds) ++ bytesOfAll 4 (map (ofZ w32) (t .offsets))
 
@@ -57,6 +59,7 @@ unfoldable pub entriesFrom : ℕ → List ℕ → List Entry
 entriesFrom zero bs = []
 entriesFrom (suc n) bs = entry (numberIn (take 8 bs)) (toZ w32 (numberIn (take 4 (drop 8 bs)))) ∷ entriesFrom n (drop 12 bs)
 
+-- all whole entries in a list of bytes
 abbrev pub entriesIn : List ℕ → List Entry
 entriesIn b = entriesFrom (length b / 12) b
 
@@ -76,6 +79,6 @@ builtFrom b = cond (eqb (length b % 12) 0) (built (entriesIn b)) (8, tableOf [])
 abbrev pub stored : List ℕ → ℕ × LeapTable → ℕ × List ℕ
 stored b x = cond (eqb (x .0) 0) (0, imageOf (x .1)) (x .0, b)
 
--- extension of the table in an image: 8 where it is none
+-- extension of the table in an image: 8 where the bytes are no image
 abbrev pub imageExtended : List ℕ → Entry → ℕ × List ℕ
 imageExtended b e = cond (sized b) (stored b (extended (tableIn b) e)) (8, b)

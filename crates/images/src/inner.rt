@@ -30,9 +30,10 @@ pub const ENTRY_BYTES: usize = THRESHOLD_BYTES + OFFSET_BYTES;
 // Where the offsets of an image begin: 520.
 const OFFSETS_AT: usize = LENGTH_BYTES + SLOTS * THRESHOLD_BYTES;
 
-// 776
+// The bytes of an image: 776.
 pub const IMAGE_BYTES: usize = OFFSETS_AT + SLOTS * OFFSET_BYTES;
 
+// The largest number whose two's complement is itself.
 const LARGEST_OFFSET: u32 = 2147483647;
 
 // A refusal, and the empty table beside it.
