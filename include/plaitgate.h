@@ -270,6 +270,60 @@ uint32_t plaitgate_duration_from_nanos(int64_t nanos, int64_t *duration);
 /* The nanoseconds of a duration: the same number. Does not refuse. */
 uint32_t plaitgate_duration_as_nanos(int64_t duration, int64_t *nanos);
 
+/* ---- Civil dates ---- */
+
+/*
+ * A date of the Gregorian calendar before and after its introduction: a year, which may be 0 or negative, a month and
+ * a day. No field is checked. A date that is in the calendar has the days of the calendar; any other has those that
+ * the calendar's formula gives it, so that 31 February 2023 is 3 March.
+ */
+
+/* The date with these fields, as they are given. Does not refuse. */
+uint32_t plaitgate_civil_date_new(int32_t year, uint8_t month, uint8_t day, int32_t *date_year, uint8_t *date_month,
+                                  uint8_t *date_day);
+
+/* The days from 1970-01-01 to a date, negative before it. Refuses by 1 for year -2147483648 with a month of 0 to
+   2. */
+uint32_t plaitgate_civil_date_days_from_unix(int32_t year, uint8_t month, uint8_t day, int64_t *days);
+
+/* The days from a date to another, negative where the other is earlier. Refuses by 1 where either has year
+   -2147483648 and a month of 0 to 2. */
+uint32_t plaitgate_civil_date_days_until(int32_t year, uint8_t month, uint8_t day, int32_t other_year,
+                                         uint8_t other_month, uint8_t other_day, int64_t *days);
+
+/* As plaitgate_civil_date_days_until, in seconds, 86400 to a day. */
+uint32_t plaitgate_civil_date_seconds_until(int32_t year, uint8_t month, uint8_t day, int32_t other_year,
+                                            uint8_t other_month, uint8_t other_day, int64_t *seconds);
+
+/* As plaitgate_civil_date_days_until, in nanoseconds. Refuses by 1 also beyond 106751 days, where they do not fit 64
+   bits with sign. */
+uint32_t plaitgate_civil_date_nanos_until(int32_t year, uint8_t month, uint8_t day, int32_t other_year,
+                                          uint8_t other_month, uint8_t other_day, int64_t *nanos);
+
+/* ---- Civil times ---- */
+
+/* The date and the time of day of so many nanoseconds since 1972-01-01. Does not refuse: the last is
+   2556-07-20T23:34:33.709551615. */
+uint32_t plaitgate_civil_from_utc_nanos(uint64_t count, int32_t *year, uint8_t *month, uint8_t *day, uint8_t *hour,
+                                        uint8_t *minute, uint8_t *second, uint32_t *nanos);
+
+/* The date and the time of day of a UTC count. Does not refuse. */
+uint32_t plaitgate_utc_to_civil(uint64_t count, int32_t *year, uint8_t *month, uint8_t *day, uint8_t *hour,
+                                uint8_t *minute, uint8_t *second, uint32_t *nanos);
+
+/* The nanoseconds from 1972-01-01 to a date and a time of day. No field is checked: hour 24 is the next day's hour 0.
+   Refuses by 1 where the date is before 1972-01-01, or the sum above 64 bits. */
+uint32_t plaitgate_civil_to_utc_nanos(int32_t year, uint8_t month, uint8_t day, uint8_t hour, uint8_t minute,
+                                      uint8_t second, uint32_t nanos, uint64_t *count);
+
+/* The UTC count of a date and a time of day: the same number, refused alike. */
+uint32_t plaitgate_civil_to_utc(int32_t year, uint8_t month, uint8_t day, uint8_t hour, uint8_t minute,
+                                uint8_t second, uint32_t nanos, uint64_t *count);
+
+/* 1 where a civil time has no part of a second, else 0. Does not refuse. */
+uint32_t plaitgate_civil_is_whole_second(int32_t year, uint8_t month, uint8_t day, uint8_t hour, uint8_t minute,
+                                         uint8_t second, uint32_t nanos, uint8_t *yes);
+
 #ifdef __cplusplus
 }
 #endif

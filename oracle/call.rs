@@ -1,5 +1,6 @@
 //! One call as both sides give it, and the form of its entry in the table.
 
+use crate::inputs::Trials;
 use crate::number::Kind;
 
 /// A named input or result of a call.
@@ -26,6 +27,8 @@ pub struct Call {
     pub prototype: String,
     /// The refusal that the rules give where the crate panics; `None` where it must not panic.
     pub panic_is: Option<u32>,
+    /// What the call is tried on.
+    pub trials: fn(&'static [Named]) -> Trials,
     pub original: fn(&[i128]) -> Outcome,
     pub port: fn(&[i128]) -> Written,
 }
@@ -50,16 +53,12 @@ pub fn prototype(name: &str, inputs: &[Named], results: &[Named]) -> String {
 
 /// An entry of the table: `call!("name", (inputs) -> (results), what the crate answers)`, where the last part
 /// uses the inputs by name and may be of any type that has an `Outcome` (original.rs). The name may be given
-/// in parts. `panic is N` at the end names the refusal that stands for a panic of the crate.
+/// in parts. `tried on f` at the end names what it is tried on, if that is not `inputs::numbers`, and after it
+/// `panic is N` the refusal that stands for a panic of the crate.
 #[macro_export]
 macro_rules! call {
-    ($($part:literal)+, ($($input:ident: $given:ty),*) -> ($($result:ident: $written:ty),*), $original:expr) => {
-        $crate::call!(@entry None, $($part)+, ($($input: $given),*) -> ($($result: $written),*), $original)
-    };
-    ($($part:literal)+, ($($input:ident: $given:ty),*) -> ($($result:ident: $written:ty),*), $original:expr, panic is $refusal:literal) => {
-        $crate::call!(@entry Some($refusal), $($part)+, ($($input: $given),*) -> ($($result: $written),*), $original)
-    };
-    (@entry $panic_is:expr, $($part:literal)+, ($($input:ident: $given:ty),*) -> ($($result:ident: $written:ty),*), $original:expr) => {{
+    ($($part:literal)+, ($($input:ident: $given:ty),*) -> ($($result:ident: $written:ty),*), $original:expr
+        $(, tried on $trials:path)? $(, panic is $refusal:literal)?) => {{
         use $crate::number::{Number, Place};
         extern "C" {
             #[link_name = concat!("plaitgate_", $($part),+)]
@@ -90,7 +89,8 @@ macro_rules! call {
             inputs: INPUTS,
             results: RESULTS,
             prototype: $crate::call::prototype(NAME, INPUTS, RESULTS),
-            panic_is: $panic_is,
+            panic_is: [$(Some($refusal),)? None][0],
+            trials: [$($trials as fn(&'static [$crate::call::Named]) -> $crate::inputs::Trials,)? $crate::inputs::numbers][0],
             original,
             port,
         }

@@ -3,7 +3,8 @@
 
 use crate::call;
 use crate::call::Call;
-use gnss_time::{Duration, DurationParts, Glonass, Gps, Tai, Time, Utc};
+use crate::dates;
+use gnss_time::{CivilDate, CivilDateTime, Duration, DurationParts, Glonass, Gps, Tai, Time, Utc};
 
 /// The calls that every scale has.
 macro_rules! scale_calls {
@@ -45,6 +46,8 @@ pub fn calls() -> Vec<Call> {
     calls.extend(glonass_calls());
     calls.extend(unix_calls());
     calls.extend(duration_calls());
+    calls.extend(date_calls());
+    calls.extend(civil_calls());
     calls
 }
 
@@ -91,5 +94,49 @@ fn duration_calls() -> [Call; 3] {
             DurationParts::new(seconds, nanos)),
         call!("duration_from_nanos", (nanos: i64) -> (duration: i64), Duration::from_nanos(nanos)),
         call!("duration_as_nanos", (duration: i64) -> (nanos: i64), Duration::from_nanos(duration).as_nanos()),
+    ]
+}
+
+fn date_calls() -> [Call; 5] {
+    [
+        call!("civil_date_new", (year: i32, month: u8, day: u8) -> (date_year: i32, date_month: u8, date_day: u8),
+            CivilDate::new(year, month, day), tried on dates::one_date),
+        call!("civil_date_days_from_unix", (year: i32, month: u8, day: u8) -> (days: i64),
+            CivilDate { year, month, day }.days_from_unix(), tried on dates::one_date, panic is 1),
+        call!("civil_date_days_until",
+            (year: i32, month: u8, day: u8, other_year: i32, other_month: u8, other_day: u8) -> (days: i64),
+            CivilDate { year, month, day }.days_until(CivilDate::new(other_year, other_month, other_day)),
+            tried on dates::two_dates, panic is 1),
+        call!("civil_date_seconds_until",
+            (year: i32, month: u8, day: u8, other_year: i32, other_month: u8, other_day: u8) -> (seconds: i64),
+            CivilDate { year, month, day }.seconds_until(CivilDate::new(other_year, other_month, other_day)),
+            tried on dates::two_dates, panic is 1),
+        call!("civil_date_nanos_until",
+            (year: i32, month: u8, day: u8, other_year: i32, other_month: u8, other_day: u8) -> (nanos: i64),
+            CivilDate { year, month, day }.nanos_until(CivilDate::new(other_year, other_month, other_day)),
+            tried on dates::two_dates, panic is 1),
+    ]
+}
+
+fn civil_calls() -> [Call; 5] {
+    [
+        call!("civil_from_utc_nanos", (count: u64)
+            -> (year: i32, month: u8, day: u8, hour: u8, minute: u8, second: u8, nanos: u32),
+            CivilDateTime::from_utc_nanos(count), tried on dates::counts),
+        call!("utc_to_civil", (count: u64)
+            -> (year: i32, month: u8, day: u8, hour: u8, minute: u8, second: u8, nanos: u32),
+            at::<Utc>(count).to_civil(), tried on dates::counts),
+        call!("civil_to_utc_nanos",
+            (year: i32, month: u8, day: u8, hour: u8, minute: u8, second: u8, nanos: u32) -> (count: u64),
+            CivilDateTime { year, month, day, hour, minute, second, nanos }.to_utc_nanos(),
+            tried on dates::civil_times),
+        call!("civil_to_utc",
+            (year: i32, month: u8, day: u8, hour: u8, minute: u8, second: u8, nanos: u32) -> (count: u64),
+            CivilDateTime { year, month, day, hour, minute, second, nanos }.to_utc(),
+            tried on dates::civil_times),
+        call!("civil_is_whole_second",
+            (year: i32, month: u8, day: u8, hour: u8, minute: u8, second: u8, nanos: u32) -> (yes: u8),
+            CivilDateTime { year, month, day, hour, minute, second, nanos }.is_whole_second(),
+            tried on dates::civil_times),
     ]
 }

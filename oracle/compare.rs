@@ -1,7 +1,7 @@
 //! One call on all its inputs, both sides held to each other.
 
 use crate::call::{Call, Written};
-use crate::inputs::{EdgeInputs, RandomInputs};
+use crate::chance::Chance;
 use std::panic;
 use std::sync::atomic::{AtomicBool, Ordering};
 
@@ -46,16 +46,18 @@ pub fn due(call: &Call, inputs: &[i128]) -> Due {
     }
 }
 
-/// Compares a call on every combination of edges, then on so many random inputs.
+/// Compares a call on all its inputs in order, then on so many random inputs.
 pub fn compare(call: &Call, seed: u64, count: u64) -> Tally {
     let mut tally = Tally::default();
-    let edges = EdgeInputs::of(call.inputs);
-    for place in 0..edges.len() {
-        tally.compare_once(call, &edges.at(place));
+    let trials = (call.trials)(call.inputs);
+    for group in &trials.groups {
+        for place in 0..group.len() {
+            tally.compare_once(call, &group.at(place));
+        }
     }
-    let mut random = RandomInputs::of(call.inputs, call.name, seed);
+    let mut chance = Chance::of(call.name, seed);
     for _ in 0..count {
-        tally.compare_once(call, &random.draw());
+        tally.compare_once(call, &(trials.draw)(&mut chance));
     }
     tally
 }

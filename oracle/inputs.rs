@@ -1,6 +1,7 @@
-//! What both sides are given: the edges, and random numbers of mixed magnitude.
+//! What both sides are given: inputs in order, as the edges, and random inputs of mixed magnitude.
 
 use crate::call::Named;
+use crate::chance::Chance;
 use crate::number::Kind;
 
 const NANOS_PER_SECOND: i128 = 1_000_000_000;
@@ -42,65 +43,73 @@ pub fn edges(kind: &Kind) -> Vec<i128> {
     edges
 }
 
-/// The combinations of the edges of a call's inputs: all of them in order or, where those are too many to try,
-/// as many as can be tried, from all over.
-pub struct EdgeInputs {
-    edges: Vec<Vec<i128>>,
-    combinations: u128,
+/// What a call is tried on: groups of inputs in order, and inputs drawn by chance.
+pub struct Trials {
+    pub groups: Vec<Group>,
+    pub draw: Box<dyn Fn(&mut Chance) -> Vec<i128>>,
 }
 
-const MOST_COMBINATIONS: u128 = 2_000_000;
-/// A prime above the number of edges of any input, so that its steps meet each combination once.
-const STEP: u128 = 1_000_000_007;
+/// Inputs in order, each made when it is asked for.
+pub struct Group {
+    len: usize,
+    at: Box<dyn Fn(usize) -> Vec<i128>>,
+}
 
-impl EdgeInputs {
-    pub fn of(inputs: &[Named]) -> EdgeInputs {
-        let edges: Vec<Vec<i128>> = inputs.iter().map(|(_, kind)| edges(kind)).collect();
-        let combinations = edges.iter().map(|edges| edges.len() as u128).product();
-        EdgeInputs { edges, combinations }
+impl Group {
+    pub fn new(len: usize, at: impl Fn(usize) -> Vec<i128> + 'static) -> Group {
+        Group { len, at: Box::new(at) }
     }
 
     pub fn len(&self) -> usize {
-        self.combinations.min(MOST_COMBINATIONS) as usize
+        self.len
     }
 
-    /// The combination at a place; where all are tried, the last input changes fastest.
     pub fn at(&self, place: usize) -> Vec<i128> {
-        let mut place = place as u128;
-        if self.combinations > MOST_COMBINATIONS {
-            place = place * STEP % self.combinations;
-        }
-        let mut inputs = vec![0; self.edges.len()];
-        for (input, edges) in inputs.iter_mut().zip(&self.edges).rev() {
-            let many = edges.len() as u128;
-            *input = edges[(place % many) as usize];
-            place /= many;
-        }
-        inputs
+        (self.at)(place)
     }
 }
 
-/// Random inputs, the same for the same seed and call.
-pub struct RandomInputs {
-    state: u64,
+const MOST_COMBINATIONS: usize = 2_000_000;
+/// A prime above the number of choices for any input, so that its steps meet each combination once.
+const STEP: usize = 1_000_000_007;
+
+/// The combinations of the choices for each input: all of them, the last input changing fastest, or, where those are
+/// too many to try, as many as can be tried, from all over.
+pub fn combinations(choices: Vec<Vec<i128>>) -> Group {
+    let all: usize = choices.iter().map(Vec::len).product();
+    let step = if all > MOST_COMBINATIONS { STEP } else { 1 };
+    Group::new(all.min(MOST_COMBINATIONS), move |place| {
+        let mut place = place * step % all;
+        let mut inputs = vec![0; choices.len()];
+        for (input, choices) in inputs.iter_mut().zip(&choices).rev() {
+            *input = choices[place % choices.len()];
+            place /= choices.len();
+        }
+        inputs
+    })
+}
+
+/// What a call is tried on whose inputs are numbers of their types and no more: all combinations of edges, and
+/// numbers of every length.
+pub fn numbers(inputs: &'static [Named]) -> Trials {
+    let edges: Vec<Vec<i128>> = inputs.iter().map(|(_, kind)| edges(kind)).collect();
+    let drawn = Numbers { inputs, edges: edges.clone() };
+    Trials { groups: vec![combinations(edges)], draw: Box::new(move |chance| drawn.draw(chance)) }
+}
+
+struct Numbers {
     inputs: &'static [Named],
     edges: Vec<Vec<i128>>,
 }
 
-impl RandomInputs {
-    pub fn of(inputs: &'static [Named], name: &str, seed: u64) -> RandomInputs {
-        // each call has a row of numbers of its own, whatever other calls there are
-        let state = name.bytes().fold(seed, |state, byte| mixed(state ^ u64::from(byte)));
-        RandomInputs { state, inputs, edges: inputs.iter().map(|(_, kind)| edges(kind)).collect() }
-    }
-
-    pub fn draw(&mut self) -> Vec<i128> {
+impl Numbers {
+    fn draw(&self, chance: &mut Chance) -> Vec<i128> {
         let mut drawn: Vec<i128> = Vec::with_capacity(self.inputs.len());
         // in half of the draws one lower bound for all inputs, or they would seldom be small together
-        let most_bits = if self.below(2) == 0 { 64 } else { self.below(65) };
+        let most_bits = if chance.below(2) == 0 { 64 } else { chance.below(65) };
         for at in 0..self.inputs.len() {
             let number = loop {
-                let number = self.number(at, drawn.last().copied(), most_bits);
+                let number = self.number(chance, at, drawn.last().copied(), most_bits);
                 if self.inputs[at].1.holds(number) {
                     break number;
                 }
@@ -112,46 +121,18 @@ impl RandomInputs {
 
     /// A number for an input, which its kind may not hold: any of 64 bits, or near an edge, or such that the sum
     /// or difference with the input before it is near an edge, or of any length up to so many bits.
-    fn number(&mut self, at: usize, before: Option<i128>, most_bits: u64) -> i128 {
-        match (self.below(5), before) {
-            (0, _) => i128::from(self.next()) + self.inputs[at].1.least,
-            (1, _) => self.near_edge(at),
-            (2, Some(before)) => self.near_edge(at) + before,
-            (3, Some(before)) => self.near_edge(at) - before,
-            _ => self.of_length_up_to(most_bits),
+    fn number(&self, chance: &mut Chance, at: usize, before: Option<i128>, most_bits: u64) -> i128 {
+        match (chance.below(5), before) {
+            (0, _) => i128::from(chance.next()) + self.inputs[at].1.least,
+            (1, _) => self.near_edge(chance, at),
+            (2, Some(before)) => self.near_edge(chance, at) + before,
+            (3, Some(before)) => self.near_edge(chance, at) - before,
+            _ => chance.of_length_up_to(most_bits),
         }
     }
 
-    fn near_edge(&mut self, at: usize) -> i128 {
-        let place = self.below(self.edges[at].len() as u64) as usize;
+    fn near_edge(&self, chance: &mut Chance, at: usize) -> i128 {
         // up to some seconds away, in nanoseconds
-        self.edges[at][place] + self.of_length_up_to(33)
+        chance.one_of(&self.edges[at]) + chance.of_length_up_to(33)
     }
-
-    /// A number of either sign and of any length up to so many bits.
-    fn of_length_up_to(&mut self, most: u64) -> i128 {
-        let bits = self.below(most + 1) as u32;
-        let magnitude = i128::from(self.next().checked_shr(64 - bits).unwrap_or(0));
-        if self.below(2) == 0 {
-            magnitude
-        } else {
-            -magnitude
-        }
-    }
-
-    fn below(&mut self, bound: u64) -> u64 {
-        self.next() % bound
-    }
-
-    /// The generator splitmix64.
-    fn next(&mut self) -> u64 {
-        self.state = self.state.wrapping_add(0x9E37_79B9_7F4A_7C15);
-        mixed(self.state)
-    }
-}
-
-fn mixed(state: u64) -> u64 {
-    let state = (state ^ (state >> 30)).wrapping_mul(0xBF58_476D_1CE4_E5B9);
-    let state = (state ^ (state >> 27)).wrapping_mul(0x94D0_49BB_1331_11EB);
-    state ^ (state >> 31)
 }

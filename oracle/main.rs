@@ -3,7 +3,10 @@
 
 mod call;
 mod calls;
+mod chance;
 mod compare;
+mod dates;
+mod epochs;
 mod header;
 mod inputs;
 mod number;
@@ -40,6 +43,10 @@ fn main() -> ExitCode {
     if !disagreements.is_empty() {
         return failed(&format!("include/plaitgate.h and the oracle disagree\n{}", disagreements.join("\n")));
     }
+    let other_lengths = epochs::differences(&calls);
+    if !other_lengths.is_empty() {
+        return failed(&format!("the epochs lie elsewhere\n{}", other_lengths.join("\n")));
+    }
     run(&calls, options.seed, options.count)
 }
 
@@ -75,6 +82,7 @@ fn run(calls: &[call::Call], seed: u64, count: u64) -> ExitCode {
     if differences > 0 {
         return failed(&format!("{differences} differences in {comparisons} comparisons"));
     }
+    println!("oracle: {} lengths between epochs, as in the crate", epochs::COUNT);
     println!("oracle: {comparisons} comparisons of {} calls, no difference", calls.len());
     ExitCode::SUCCESS
 }

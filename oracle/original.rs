@@ -2,7 +2,7 @@
 
 use crate::call::Outcome;
 use crate::number::Number;
-use gnss_time::{Duration, DurationParts, GnssTimeError, Time, TimeScale};
+use gnss_time::{CivilDate, CivilDateTime, Duration, DurationParts, GnssTimeError, Time, TimeScale};
 
 /// An answer of the crate that has an outcome in numbers.
 pub trait Answer {
@@ -76,5 +76,19 @@ impl Answer for Duration {
 impl Answer for DurationParts {
     fn outcome(self) -> Outcome {
         (self.seconds, self.nanos).outcome()
+    }
+}
+
+impl Answer for CivilDate {
+    fn outcome(self) -> Outcome {
+        Ok(vec![self.year.wide(), self.month.wide(), self.day.wide()])
+    }
+}
+
+impl Answer for CivilDateTime {
+    fn outcome(self) -> Outcome {
+        let date = CivilDate::new(self.year, self.month, self.day).outcome()?;
+        let time = vec![self.hour.wide(), self.minute.wide(), self.second.wide(), self.nanos.wide()];
+        Ok([date, time].concat())
     }
 }

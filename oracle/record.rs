@@ -1,15 +1,16 @@
 //! The recorded list: a sample of the crate's answers for a program that replays them without the crate.
 
 use crate::call::{Call, Written};
+use crate::chance::Chance;
 use crate::compare::due;
-use crate::inputs::{EdgeInputs, RandomInputs};
+use crate::inputs::Group;
 use std::collections::{BTreeMap, BTreeSet, HashSet};
 use std::fmt::Write;
 
-/// Of each call: so many neighbouring edges for each change from one refusal (or an answer) to another, so many
-/// other edges, and so many random inputs.
+/// Of each group of a call's inputs: so many neighbours for each change from one refusal (or an answer) to another,
+/// and so many others, from all over; and of each call so many random inputs.
 const TURNS: usize = 4;
-const EDGES: usize = 14;
+const OTHERS: usize = 14;
 const RANDOMS: usize = 8;
 /// Of the random inputs; fixed, so that the list is the same whenever it is made.
 const SEED: u64 = 1;
@@ -44,24 +45,28 @@ fn legend(calls: &[Call]) -> String {
 }
 
 fn sample(call: &Call) -> Vec<Vec<i128>> {
-    let edges = EdgeInputs::of(call.inputs);
-    let mut places: BTreeSet<usize> = thinned(edges.len(), EDGES).collect();
-    for turns in turns(call, &edges).values() {
+    let trials = (call.trials)(call.inputs);
+    let mut chance = Chance::of(call.name, SEED);
+    let drawn: Vec<Vec<i128>> = (0..RANDOMS).map(|_| (trials.draw)(&mut chance)).collect();
+    trials.groups.iter().flat_map(|group| sample_of_group(call, group)).chain(drawn).collect()
+}
+
+fn sample_of_group(call: &Call, group: &Group) -> Vec<Vec<i128>> {
+    let mut places: BTreeSet<usize> = thinned(group.len(), OTHERS).collect();
+    for turns in turns(call, group).values() {
         for turn in thinned(turns.len(), TURNS) {
             places.extend([turns[turn] - 1, turns[turn]]);
         }
     }
-    let mut random = RandomInputs::of(call.inputs, call.name, SEED);
-    let drawn: Vec<Vec<i128>> = (0..RANDOMS).map(|_| random.draw()).collect();
-    places.into_iter().map(|place| edges.at(place)).chain(drawn).collect()
+    places.into_iter().map(|place| group.at(place)).collect()
 }
 
 /// The places where the refusal is not the one before, by the two refusals.
-fn turns(call: &Call, edges: &EdgeInputs) -> BTreeMap<[Option<u32>; 2], Vec<usize>> {
-    let refusal = |place| due(call, &edges.at(place)).written.map(|written| written.refusal);
+fn turns(call: &Call, group: &Group) -> BTreeMap<[Option<u32>; 2], Vec<usize>> {
+    let refusal = |place| due(call, &group.at(place)).written.map(|written| written.refusal);
     let mut turns: BTreeMap<_, Vec<usize>> = BTreeMap::new();
     let mut before = refusal(0);
-    for place in 1..edges.len() {
+    for place in 1..group.len() {
         let now = refusal(place);
         if now != before {
             turns.entry([before, now]).or_default().push(place);

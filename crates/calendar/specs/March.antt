@@ -32,6 +32,10 @@ pub record InMonth (k m : ℕ) : Type 0 where
   pub begun : monthStart m ≤ k
   pub ahead : k < monthStart (suc m)
 
+-- the number of 1970-01-01 among the days that are counted, from 1 on, from so many eras before 0000-03-01
+abbrev pub epochNumber : ℕ → ℕ
+epochNumber eras = 146097 * eras + 719469
+
 -- eras of 400 years by which a year of 32 bits is lifted above 0
 abbrev pub liftEras : ℕ
 liftEras = 5368710

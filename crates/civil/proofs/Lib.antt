@@ -1,4 +1,4 @@
 pub mod Days
-pub mod CivilTheorems
 pub mod Tells
+pub mod CivilTheorems
 pub mod Calls

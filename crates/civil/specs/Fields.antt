@@ -11,6 +11,7 @@ use Rattle.calendar.specs.Formula.{dayOf}
 use Rattle.calendar.specs.Dates.{utcEpochDay}
 use Rattle.civil.specs.declared.CivilDateTime.{CivilDateTime}
 
+-- fields, whether or not a clock shows them
 pub record Fields : Type 0 where
   pub date : calendar.Date
   pub hour : ℕ

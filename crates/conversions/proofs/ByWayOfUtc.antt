@@ -1,6 +1,5 @@
 -- GLONASS and GPS, and Unix seconds and GPS, go by way of UTC: each conversion is its two steps composed.
 use mathlib.Core.List.{List}
-use Prim.Native.Nat.{ℕ}
 use lib.IntN.{ℤ, pos, _-ℤ_}
 use Rattle.refusals.specs.Outcome.{Outcome}
 use Rattle.counts.specs.Exact.{countOf}

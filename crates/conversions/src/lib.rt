@@ -1,6 +1,7 @@
 // Conversions between GPS, UTC, GLONASS and Unix time by a leap-second table, after leap.rs.
 // Each call with a table tests it first, and refuses 8 where it is not valid.
 pub mod inner;
+pub mod lent;
 
 ghost use mathlib.Core.Path.{_≡_};
 ghost use Rattle.tables.specs.Slots.{entriesOf, ofValid};
@@ -27,11 +28,7 @@ pub fn gps_to_utc(gps: Gps, table: LeapTable) -> UtcAnswer
     ensures { λ r. ⌜ utcIn r ≡ ofValid table (gpsToUtc (entriesOf table) (gps .0)) ⌝ }
 {
     let n = table.len;
-    if tables::inner::is_valid(&table.thresholds, &table.offsets, n) {
-        UtcAnswer::of(inner::gps_to_utc(&table.thresholds, &table.offsets, n, gps.0))
-    } else {
-        UtcAnswer::Refused(Refusal::BadTable)
-    }
+    lent::gps_to_utc(&table.thresholds, &table.offsets, n, gps)
 }
 
 // Refuses 8, then 9, 1: the table, the offset, the result. Where a UTC count repeats it is the first of two.
@@ -39,11 +36,7 @@ pub fn utc_to_gps(utc: Utc, table: LeapTable) -> GpsAnswer
     ensures { λ r. ⌜ gpsIn r ≡ ofValid table (utcToGps (entriesOf table) (utc .0)) ⌝ }
 {
     let n = table.len;
-    if tables::inner::is_valid(&table.thresholds, &table.offsets, n) {
-        GpsAnswer::of(inner::utc_to_gps(&table.thresholds, &table.offsets, n, utc.0))
-    } else {
-        GpsAnswer::Refused(Refusal::BadTable)
-    }
+    lent::utc_to_gps(&table.thresholds, &table.offsets, n, utc)
 }
 
 pub fn glonass_to_utc(glonass: Glonass) -> UtcAnswer
@@ -63,11 +56,7 @@ pub fn glonass_to_gps(glonass: Glonass, table: LeapTable) -> GpsAnswer
     ensures { λ r. ⌜ gpsIn r ≡ ofValid table (glonassToGps (entriesOf table) (glonass .0)) ⌝ }
 {
     let n = table.len;
-    if tables::inner::is_valid(&table.thresholds, &table.offsets, n) {
-        GpsAnswer::of(inner::glonass_to_gps(&table.thresholds, &table.offsets, n, glonass.0))
-    } else {
-        GpsAnswer::Refused(Refusal::BadTable)
-    }
+    lent::glonass_to_gps(&table.thresholds, &table.offsets, n, glonass)
 }
 
 // By way of UTC.
@@ -75,11 +64,7 @@ pub fn gps_to_glonass(gps: Gps, table: LeapTable) -> GlonassAnswer
     ensures { λ r. ⌜ glonassIn r ≡ ofValid table (gpsToGlonass (entriesOf table) (gps .0)) ⌝ }
 {
     let n = table.len;
-    if tables::inner::is_valid(&table.thresholds, &table.offsets, n) {
-        GlonassAnswer::of(inner::gps_to_glonass(&table.thresholds, &table.offsets, n, gps.0))
-    } else {
-        GlonassAnswer::Refused(Refusal::BadTable)
-    }
+    lent::gps_to_glonass(&table.thresholds, &table.offsets, n, gps)
 }
 
 // The GPS count of Unix seconds, by way of UTC.
@@ -87,11 +72,7 @@ pub fn gps_from_unix_seconds(seconds: i64, table: LeapTable) -> GpsAnswer
     ensures { λ r. ⌜ gpsIn r ≡ ofValid table (unixToGps (entriesOf table) seconds) ⌝ }
 {
     let n = table.len;
-    if tables::inner::is_valid(&table.thresholds, &table.offsets, n) {
-        GpsAnswer::of(inner::unix_to_gps(&table.thresholds, &table.offsets, n, seconds))
-    } else {
-        GpsAnswer::Refused(Refusal::BadTable)
-    }
+    lent::gps_from_unix_seconds(&table.thresholds, &table.offsets, n, seconds)
 }
 
 // The whole Unix seconds of a GPS count, by way of UTC.
@@ -99,9 +80,5 @@ pub fn gps_as_unix_seconds(gps: Gps, table: LeapTable) -> UnixAnswer
     ensures { λ r. ⌜ unixIn r ≡ ofValid table (gpsToUnix (entriesOf table) (gps .0)) ⌝ }
 {
     let n = table.len;
-    if tables::inner::is_valid(&table.thresholds, &table.offsets, n) {
-        inner::gps_to_unix(&table.thresholds, &table.offsets, n, gps.0)
-    } else {
-        UnixAnswer::Refused(Refusal::BadTable)
-    }
+    lent::gps_as_unix_seconds(&table.thresholds, &table.offsets, n, gps)
 }

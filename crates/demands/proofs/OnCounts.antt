@@ -23,9 +23,10 @@ module _ (es : List Entry) {there there′ back back′ : ℕ → Outcome ℕ}
         let (none, only) = t .refused-exactly u m in
         (λ (k, e) g c. none (k, sym (from u m) ∙ e) g (again c), λ n. let (k, e) = only (λ g c. n g (here c)) in (k, from u m ∙ e));
     answers-the-earliest = λ u g m.
-        let (is, only) = t .answers-the-earliest u g m in
-        (λ e. let i = is (sym (from u m) ∙ e) in record { converts = here (i .converts); first = λ g′ c. i .first g′ (again c) },
-        λ i. from u m ∙ only (record { converts = again (i .converts); first = λ g′ c. i .first g′ (here c) }));
+        let (is, only) = t .answers-the-earliest u g m in (
+          λ e. let i = is (sym (from u m) ∙ e) in record { converts = here (i .converts); first = λ g′ c. i .first g′ (again c) },
+          λ i. from u m ∙ only (record { converts = again (i .converts); first = λ g′ c. i .first g′ (here c) }),
+        );
     shared-exactly = λ g₁ g₂ u₁ u₂ c₁ c₂. t .shared-exactly g₁ g₂ u₁ u₂ (again c₁) (again c₂);
     at-most-two = λ g₁ g₂ g₃ u c₁ c₂ c₃. t .at-most-two g₁ g₂ g₃ u (again c₁) (again c₂) (again c₃);
   }

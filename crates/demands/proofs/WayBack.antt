@@ -120,17 +120,18 @@ module _ (es : List Entry) (k : ℕ → ℕ) (f : LeapSeconds es k) where
       (omega arith, omega arith)
 
   shared-exactly : SharedExactly es (gpsToUtc es)
-  shared-exactly g₁ g₂ u₁ u₂ c₁ c₂ l =
-      (λ e.
-          let (d, more) = apart g₁ g₂ u₂ (subst (λ (u : ℕ). There g₁ u) e c₁) c₂ l in
-          let i = f .more-by-an-entry (tai g₁) (tai g₂) more in
-          (omega arith, record { entry = i .entry; later = i .among; begun = omega (arith, i .by); within = omega (arith, i .after) }),
-      λ (d, i).
-          let between : Between (drop 1 es) (tai g₁) (tai g₂) =
-          record { entry = i .entry; among = i .later; after = omega (arith, i .within); by = omega (arith, i .begun) } in
-          let more = f .an-entry-more (tai g₁) (tai g₂) between in
-          let one = f .one-in-a-day (tai g₁) (tai g₂) (omega arith) in
-          omega (arith, reads c₁ .exact, reads c₂ .exact))
+  shared-exactly g₁ g₂ u₁ u₂ c₁ c₂ l = (
+    λ e.
+        let (d, more) = apart g₁ g₂ u₂ (subst (λ (u : ℕ). There g₁ u) e c₁) c₂ l in
+        let i = f .more-by-an-entry (tai g₁) (tai g₂) more in
+        (omega arith, record { entry = i .entry; later = i .among; begun = omega (arith, i .by); within = omega (arith, i .after) }),
+    λ (d, i).
+        let between : Between (drop 1 es) (tai g₁) (tai g₂) =
+        record { entry = i .entry; among = i .later; after = omega (arith, i .within); by = omega (arith, i .begun) } in
+        let more = f .an-entry-more (tai g₁) (tai g₂) between in
+        let one = f .one-in-a-day (tai g₁) (tai g₂) (omega arith) in
+        omega (arith, reads c₁ .exact, reads c₂ .exact),
+  )
 
   -- whichever of two different counts is the later
   a-second : (g₁ g₂ u : ℕ) → There g₁ u → There g₂ u → g₁ ≢ g₂ → distance g₁ g₂ ≡ second

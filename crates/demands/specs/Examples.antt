@@ -40,7 +40,6 @@ Holds (to-utc f o) = countAt f ≡ o
 Holds (from-week w s n o) = ofUnits weekSeconds w s n ≡ o
 
 infixr 5 _also_
-
 -- each of a list holds
 pub data Every : List Example → Type 0 where
   none-left : Every []

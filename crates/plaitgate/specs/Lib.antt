@@ -1,2 +1,3 @@
 pub mod Civil
 pub mod Limits
+pub mod Tables

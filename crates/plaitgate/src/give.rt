@@ -9,6 +9,10 @@ ghost use Rattle.calendar.specs.Answers.{spanIn};
 ghost use Rattle.civil.specs.Fields.{fieldsIn};
 ghost use Rattle.conversions.specs.Answers.{unixIn};
 ghost use Rattle.plaitgate.specs.Civil.{fields};
+ghost use Rattle.tables.specs.Answers.{takenIn, lengthIn, emptyIn, entryIn, updateIn, offsetIn};
+ghost use Rattle.tables.specs.Entries.{entry};
+ghost use Rattle.plaitgate.specs.Tables.{changed, bit, foundAs, foundEntry, foundCount};
+ghost use mathlib.Core.Option.{none};
 use calendar::SpanAnswer;
 use civil::CivilDateTime;
 use conversions::UnixAnswer;
@@ -19,6 +23,12 @@ use scales::glonass::GlonassAnswer;
 use scales::gps::GpsAnswer;
 use scales::tai::TaiAnswer;
 use scales::utc::UtcAnswer;
+use tables::EmptyAnswer;
+use tables::EntryAnswer;
+use tables::LengthAnswer;
+use tables::OffsetAnswer;
+use tables::Taken;
+use tables::UpdateAnswer;
 
 pub fn gps_count(answer: GpsAnswer, out: &mut u64) -> u32
     ensures { λ r. ⌜ Gives 0 (gpsIn answer) r (now (out .exit)) ⌝ }
@@ -178,4 +188,111 @@ pub fn civil(
     *minute = c.minute;
     *second = c.second;
     *nanos = c.nanos;
+}
+
+pub fn taken(answer: Taken) -> u32
+    ensures { λ r. ⌜ r ≡ takenIn answer ⌝ }
+{
+    match answer {
+        Taken::Done => 0,
+        Taken::Refused(r) => r.number(),
+    }
+}
+
+pub fn length(answer: LengthAnswer, out: &mut u64) -> u32
+    ensures { λ r. ⌜ Gives 0 (lengthIn answer) r (now (out .exit)) ⌝ }
+{
+    match answer {
+        LengthAnswer::Length(n) => {
+            *out = n as u64;
+            0
+        }
+        LengthAnswer::Refused(r) => {
+            *out = 0;
+            r.number()
+        }
+    }
+}
+
+pub fn emptiness(answer: EmptyAnswer, out: &mut u8) -> u32
+    ensures { λ r. ⌜ Gives 0 (changed bit (emptyIn answer)) r (now (out .exit)) ⌝ }
+{
+    match answer {
+        EmptyAnswer::Empty(yes) => {
+            *out = if yes { 1 } else { 0 };
+            0
+        }
+        EmptyAnswer::Refused(r) => {
+            *out = 0;
+            r.number()
+        }
+    }
+}
+
+pub fn entry(
+    answer: EntryAnswer,
+    found: &mut u8,
+    tai_nanos: &mut u64,
+    tai_minus_utc: &mut i32,
+) -> u32
+    ensures { λ r. ⌜ Gives (foundEntry none) (changed foundEntry (entryIn answer)) r (foundAs (now (found .exit)) (entry (now («tai_nanos» .exit)) (now («tai_minus_utc» .exit)))) ⌝ }
+{
+    match answer {
+        EntryAnswer::Entry(e) => {
+            let offset = e.tai_minus_utc;
+            *found = 1;
+            *tai_nanos = e.tai_nanos;
+            *tai_minus_utc = offset;
+            0
+        }
+        EntryAnswer::Nothing => {
+            *found = 0;
+            *tai_nanos = 0;
+            *tai_minus_utc = 0;
+            0
+        }
+        EntryAnswer::Refused(r) => {
+            *found = 0;
+            *tai_nanos = 0;
+            *tai_minus_utc = 0;
+            r.number()
+        }
+    }
+}
+
+pub fn update(answer: UpdateAnswer, found: &mut u8, tai: &mut u64) -> u32
+    ensures { λ r. ⌜ Gives (foundCount none) (changed foundCount (updateIn answer)) r (foundAs (now (found .exit)) (now (tai .exit))) ⌝ }
+{
+    match answer {
+        UpdateAnswer::At(t) => {
+            *found = 1;
+            *tai = t.0;
+            0
+        }
+        UpdateAnswer::Nothing => {
+            *found = 0;
+            *tai = 0;
+            0
+        }
+        UpdateAnswer::Refused(r) => {
+            *found = 0;
+            *tai = 0;
+            r.number()
+        }
+    }
+}
+
+pub fn offset(answer: OffsetAnswer, out: &mut i32) -> u32
+    ensures { λ r. ⌜ Gives (pos 0) (offsetIn answer) r (now (out .exit)) ⌝ }
+{
+    match answer {
+        OffsetAnswer::Offset(n) => {
+            *out = n;
+            0
+        }
+        OffsetAnswer::Refused(r) => {
+            *out = 0;
+            r.number()
+        }
+    }
 }

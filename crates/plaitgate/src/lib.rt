@@ -1,12 +1,15 @@
-// The library for hosts in other languages: every public call as a C function on numbers.
+// The library for hosts in other languages: every public call as a C function on numbers and bytes.
 // Each returns the refusal's number, 0 for an answer, and writes its results through references, zeros on a refusal.
 // include/plaitgate.h declares them.
 pub mod by_builtin;
+pub mod by_table;
 pub mod civil_dates;
 pub mod civil_times;
 pub mod durations;
 mod give;
 pub mod glonass;
 pub mod gps;
+pub mod leap_tables;
 pub mod tai;
+mod take;
 pub mod utc;

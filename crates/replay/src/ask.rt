@@ -1,4 +1,5 @@
 // What the library answers to a call of the recorded list. The list numbers the calls; its first lines name them.
+use crate::ask_civil;
 use crate::reply::Question;
 use crate::reply::Reply;
 use plaitgate::durations::plaitgate_duration_as_nanos;
@@ -74,6 +75,8 @@ pub fn ask(call: u64, q: Question) -> Reply {
         45..=50 => gps_weeks(call - 44, q),
         51..=56 => glonass_days(call - 50, q),
         57..=63 => unix_and_durations(call - 56, q),
+        64..=68 => ask_civil::dates(call - 63, q),
+        69..=73 => ask_civil::times(call - 68, q),
         _ => Reply::unknown(),
     }
 }
@@ -139,7 +142,7 @@ fn gps(call: u64, q: Question) -> Reply {
             let number = plaitgate_gps_limits(&mut a, &mut b, &mut c, &mut d);
             Reply {
                 number,
-                values: [a, b, c, d],
+                values: [a, b, c, d, 0, 0, 0],
                 minus: false,
             }
         }
@@ -207,7 +210,7 @@ fn utc(call: u64, q: Question) -> Reply {
             let number = plaitgate_utc_limits(&mut a, &mut b, &mut c, &mut d);
             Reply {
                 number,
-                values: [a, b, c, d],
+                values: [a, b, c, d, 0, 0, 0],
                 minus: false,
             }
         }
@@ -275,7 +278,7 @@ fn glonass(call: u64, q: Question) -> Reply {
             let number = plaitgate_glonass_limits(&mut a, &mut b, &mut c, &mut d);
             Reply {
                 number,
-                values: [a, b, c, d],
+                values: [a, b, c, d, 0, 0, 0],
                 minus: false,
             }
         }
@@ -343,7 +346,7 @@ fn tai(call: u64, q: Question) -> Reply {
             let number = plaitgate_tai_limits(&mut a, &mut b, &mut c, &mut d);
             Reply {
                 number,
-                values: [a, b, c, d],
+                values: [a, b, c, d, 0, 0, 0],
                 minus: false,
             }
         }

@@ -5,8 +5,8 @@ use crate::reply::Reply;
 
 // The numbers of the line that is being read, and what came of the lines before it.
 pub struct Reading {
-    pub sizes: [u64; 12],
-    pub signs: [u64; 12],
+    pub sizes: [u64; 16],
+    pub signs: [u64; 16],
     // the number that is being read
     pub at: usize,
     // a digit was read
@@ -24,8 +24,8 @@ pub struct Reading {
 impl Reading {
     pub fn new() -> Reading {
         Reading {
-            sizes: [0; 12],
-            signs: [0; 12],
+            sizes: [0; 16],
+            signs: [0; 16],
             at: 0,
             begun: false,
             comment: false,
@@ -55,7 +55,7 @@ impl Reading {
     fn within(self, b: u8) -> Reading {
         let at = self.at;
         let mut next = self;
-        if 12 <= at {
+        if 16 <= at {
             return next;
         }
         if b == b'-' {
@@ -106,6 +106,11 @@ impl Reading {
                 y: sizes[2],
                 y_minus: signs[2] == 1,
                 z: sizes[3],
+                fourth: sizes[4],
+                fourth_minus: signs[4] == 1,
+                fifth: sizes[5],
+                sixth: sizes[6],
+                seventh: sizes[7],
             },
         );
         same(reply, sizes, signs, place_of_refusal(call))
@@ -113,8 +118,8 @@ impl Reading {
 }
 
 // Whether a reply is what stands in a line from `at` on: the refusal's number, then the results, and after them nothing.
-fn same(reply: Reply, sizes: [u64; 12], signs: [u64; 12], at: usize) -> bool {
-    if 7 < at {
+fn same(reply: Reply, sizes: [u64; 16], signs: [u64; 16], at: usize) -> bool {
+    if 8 < at {
         return false;
     }
     let values = reply.values;
@@ -122,7 +127,9 @@ fn same(reply: Reply, sizes: [u64; 12], signs: [u64; 12], at: usize) -> bool {
     let number = sizes[at] == reply.number as u64;
     let first = sizes[at + 1] == values[0] && sizes[at + 2] == values[1];
     let second = sizes[at + 3] == values[2] && sizes[at + 4] == values[3];
-    number && minus && first && second
+    let third = sizes[at + 5] == values[4] && sizes[at + 6] == values[5];
+    let last = sizes[at + 7] == values[6];
+    number && minus && first && second && third && last
 }
 
 // Where a line has the refusal's number: behind the call's number and its inputs.
@@ -130,7 +137,9 @@ fn place_of_refusal(call: u64) -> usize {
     match call {
         11 | 22 | 33 | 44 => 1,
         6..=10 | 17..=21 | 28..=32 | 39..=43 | 61 => 3,
-        45 | 51 => 4,
+        45 | 51 | 64 | 65 => 4,
+        66..=68 => 7,
+        71..=73 => 8,
         _ => 2,
     }
 }

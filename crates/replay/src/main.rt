@@ -1,8 +1,10 @@
 // Replays recorded answers: reads the recorded list from standard input, asks the library for each of its calls, and says
 // how many lines agree with the library and how many differ.
 mod ask;
+mod ask_civil;
 mod list;
 mod reply;
+mod year;
 
 use libc::STDERR_FILENO;
 use libc::STDIN_FILENO;

@@ -1,4 +1,5 @@
 // A call's inputs, and what comes back.
+use crate::year;
 use counts::Duration;
 use counts::DurationAnswer;
 use counts::sums;
@@ -11,12 +12,17 @@ pub struct Question {
     pub y: u64,
     pub y_minus: bool,
     pub z: u64,
+    pub fourth: u64,
+    pub fourth_minus: bool,
+    pub fifth: u64,
+    pub sixth: u64,
+    pub seventh: u64,
 }
 
-// The refusal's number, 0 for an answer, and up to four results; only the first can have a minus sign.
+// The refusal's number, 0 for an answer, and up to seven results; only the first can have a minus sign.
 pub struct Reply {
     pub number: u32,
-    pub values: [u64; 4],
+    pub values: [u64; 7],
     pub minus: bool,
 }
 
@@ -29,6 +35,16 @@ impl Question {
     // The second input as a signed number.
     pub fn duration(self) -> i64 {
         signed(self.y, self.y_minus)
+    }
+
+    // The first input as a year.
+    pub fn year(self) -> i32 {
+        year::of(self.x, self.x_minus)
+    }
+
+    // The fourth input as a year.
+    pub fn other_year(self) -> i32 {
+        year::of(self.fourth, self.fourth_minus)
     }
 }
 
@@ -44,11 +60,19 @@ fn signed(size: u64, minus: bool) -> i64 {
     }
 }
 
+// A number's distance from 0.
+fn magnitude(n: i64) -> u64 {
+    match sums::by_sign(Duration(n)) {
+        Step::Forward(size) => size,
+        Step::Back(size) => size,
+    }
+}
+
 impl Reply {
     pub fn one(number: u32, a: u64) -> Reply {
         Reply {
             number,
-            values: [a, 0, 0, 0],
+            values: [a, 0, 0, 0, 0, 0, 0],
             minus: false,
         }
     }
@@ -56,19 +80,22 @@ impl Reply {
     pub fn two(number: u32, a: u64, b: u64) -> Reply {
         Reply {
             number,
-            values: [a, b, 0, 0],
+            values: [a, b, 0, 0, 0, 0, 0],
             minus: false,
         }
     }
 
     pub fn signed(number: u32, a: i64) -> Reply {
-        match sums::by_sign(Duration(a)) {
-            Step::Forward(n) => Reply::one(number, n),
-            Step::Back(n) => Reply {
-                number,
-                values: [n, 0, 0, 0],
-                minus: true,
-            },
+        Reply::signed_first(number, a, [0, 0, 0, 0, 0, 0])
+    }
+
+    // A result with a sign, and six without.
+    pub fn signed_first(number: u32, a: i64, rest: [u64; 6]) -> Reply {
+        let size = magnitude(a);
+        Reply {
+            number,
+            values: [size, rest[0], rest[1], rest[2], rest[3], rest[4], rest[5]],
+            minus: a < 0,
         }
     }
 
@@ -76,7 +103,7 @@ impl Reply {
     pub fn unknown() -> Reply {
         Reply {
             number: 4_294_967_295,
-            values: [0, 0, 0, 0],
+            values: [0, 0, 0, 0, 0, 0, 0],
             minus: false,
         }
     }

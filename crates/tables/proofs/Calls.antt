@@ -2,6 +2,7 @@
 use mathlib.Core.Path.{sym, _∙_}
 use Rattle.refusals.proofs.OneAnswer.{OneAnswer, viewed}
 use Rattle.tables.proofs.Tells.{extension-tells, length-tells, empty-tells, entry-tells, update-tells, offset-tells}
+use Rattle.tables.proofs.LeapEntry.new.Reads as entry-new-contract
 use Rattle.tables.proofs.LeapTable.new.Reads as new-contract
 use Rattle.tables.proofs.LeapTable.from_lists.Reads as from-lists-contract
 use Rattle.tables.proofs.LeapTable.try_extend.Reads as try-extend-contract
@@ -11,6 +12,10 @@ use Rattle.tables.proofs.LeapTable.entry_at.Reads as entry-at-contract
 use Rattle.tables.proofs.LeapTable.last_update.Reads as last-update-contract
 use Rattle.tables.proofs.LeapTable.current_tai_minus_utc.Reads as current-tai-minus-utc-contract
 use Rattle.tables.proofs.LeapTable.tai_minus_utc_at.Reads as tai-minus-utc-at-contract
+use Rattle.tables.proofs.lent.tai_minus_utc_at.Reads as lent-tai-minus-utc-at-contract
+
+pub entry-new : OneAnswer entry-new-contract.Post
+entry-new κ a x y e f p q = p ∙ sym q
 
 pub new : OneAnswer new-contract.Post
 new κ a x y e f p q = p ∙ sym q
@@ -38,3 +43,6 @@ current-tai-minus-utc κ a x y e f p q = viewed offset-tells x y p q
 
 pub tai-minus-utc-at : OneAnswer tai-minus-utc-at-contract.Post
 tai-minus-utc-at κ a x y e f p q = viewed offset-tells x y p q
+
+pub lent-tai-minus-utc-at : OneAnswer lent-tai-minus-utc-at-contract.Post
+lent-tai-minus-utc-at κ a x y e f p q = viewed offset-tells x y p q

@@ -2,22 +2,22 @@
 use mathlib.Core.Path.{_≡_, refl, sym, ap, _∙_}
 use mathlib.Core.Bool.{Bool, true, false}
 use mathlib.Core.List.{List, [], _∷_, _++_}
-use Prim.Native.Nat.{ℕ, suc, _+_, _≤_, _<_}
+use Prim.Native.Nat.{ℕ, _+_, _≤_, _<_}
 use native.Mathlib.Omega.{arith}
 use native.Mathlib.Decide.{decLt, ℕ-discrete}
 use native.Mathlib.Numerals.{add-one}
-use borrow.Author.Tests.{ne-eqb, le-leb, lt-leb}
-use lib.ListN.{length, getD, length-append}
+use borrow.Author.Tests.{le-leb, lt-leb}
+use lib.ListN.{length, length-append}
 use lib.Seq.{getD-set-other}
 use lib.IntN.{pos}
-use Rattle.tables.specs.Entries.{Entry, neighbours, follows, valid, lastOr, stepRefusal, joinRefusal}
+use Rattle.tables.specs.Entries.{Entry, neighbours, follows, valid, lastOr, joinRefusal}
 use Rattle.tables.specs.Slots.{entriesOf, validTable, joinedTo, extended}
 use Rattle.tables.specs.Promises.{Sized, Grows}
 use Rattle.tables.specs.declared.LeapEntry.{LeapEntry}
 use Rattle.tables.specs.declared.LeapTable.{LeapTable}
 use Rattle.tables.proofs.FirstSlots.{one-stored, slots-length}
 use Rattle.tables.proofs.Neighbours.{both, zero-follows}
-use Rattle.tables.proofs.Checked.{Checked, checked}
+use Rattle.tables.proofs.Checked.{checked}
 use Rattle.tables.proofs.Growing.{bad-table, refuses, takes, has-room}
 
 valid-joined : (p : Entry) (ps : List Entry) (e : Entry) → valid (p ∷ ps) ≡ true → follows (lastOr p ps) e ≡ true → valid (p ∷ ps ++ e ∷ []) ≡ true
@@ -33,13 +33,12 @@ unfolding neighbours joinRefusal
 stays-valid [] e v z = refl
 stays-valid (p ∷ ps) e v z = go (decLt (length (p ∷ ps)) 64)
   where
-    five : _≡_ {A = ℕ} 0 5 → ⊥
-    five h = omega arith
-
     go : Dec (length (p ∷ ps) < 64) → valid (p ∷ ps ++ e ∷ []) ≡ true
     go (yes l) =
         valid-joined p ps e v (zero-follows (lastOr p ps) e (sym (z ∙ simp (lt-leb 64 (length (p ∷ ps)) l))))
-    go (no l) = absurd (five (z ∙ simp (le-leb 64 (length (p ∷ ps)) (omega (arith, l)))))
+    go (no l) =
+        let five : _≡_ {A = ℕ} 0 5 = z ∙ simp (le-leb 64 (length (p ∷ ps)) (omega (arith, l))) in
+        absurd (omega arith)
 
 module _ (t : LeapTable) (e : LeapEntry) where
   -- what decides: the table's test, and the number of the rule
@@ -86,10 +85,7 @@ module _ (t : LeapTable) (e : LeapEntry) where
     pub extension-grows : extended t e .0 ≡ 0 → Grows t e (extended t e .1)
     extension-grows z = go decided
       where
-        eight : _≡_ {A = ℕ} 8 0 → ⊥
-        eight h = omega arith
-
         go : Decided → Grows t e (extended t e .1)
-        go (no-table v) = absurd (eight (ap (λ (x : ℕ × LeapTable). x .0) (bad-table t e v) ∙ z))
+        go (no-table v) = absurd (omega (arith, ap (λ (x : ℕ × LeapTable). x .0) (bad-table t e v) ∙ z))
         go (no-entry v k) = absurd (k (ap (λ (x : ℕ × LeapTable). x .0) (refuses t e v _ k refl) ∙ z))
         go (taken v r) = rw (← takes t e v r) (joined-grows v r)

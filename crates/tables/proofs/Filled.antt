@@ -1,11 +1,11 @@
 -- A list written over from the front, one element at a turn, and the table that is made so.
-use mathlib.Core.Path.{_≡_, refl, sym, ap, _∙_}
+use mathlib.Core.Path.{_≡_, refl, ap, _∙_}
 use mathlib.Core.List.{List, [], _∷_, _++_, map}
 use Prim.Native.Nat.{ℕ, zero, suc, _-_, _≤_, _<_}
 use native.Mathlib.Omega.{arith}
 use lib.ListN.{length, getD, set, take, drop, replicate}
 use lib.IntN.{ℤ, pos}
-use Rattle.tables.specs.Entries.{Entry, threshold, offset}
+use Rattle.tables.specs.Entries.{threshold, offset}
 use Rattle.tables.specs.Slots.{paired, slots, tableOf}
 use Rattle.tables.specs.declared.LeapTable.{LeapTable}
 use Rattle.tables.proofs.FirstSlots.{slots-length}
@@ -15,14 +15,8 @@ abbrev pub over : {A : Type 0} → List A → List A → ℕ → List A
 over d s n = take n s ++ drop n d
 
 pub over-more : {A : Type 0} (d s : List A) (j : ℕ) (z : A) → j < length d → j < length s → set (over d s j) j (getD s j z) ≡ over d s (suc j)
-over-more [] s j z h k = absurd (none h)
-  where
-    none : {j : ℕ} → j < 0 → ⊥
-    none l = omega arith
-over-more (y ∷ d) [] j z h k = absurd (none k)
-  where
-    none : {j : ℕ} → j < 0 → ⊥
-    none l = omega arith
+over-more [] s j z h k = absurd (omega arith)
+over-more (y ∷ d) [] j z h k = absurd (omega arith)
 over-more (y ∷ d) (x ∷ s) zero z h k = refl
 over-more {A} (y ∷ d) (x ∷ s) (suc j) z h k = ap (λ (l : List A). x ∷ l) (over-more d s j z (omega arith) (omega arith))
 
@@ -35,19 +29,13 @@ thresholds-of : (n : ℕ) (xs : List ℕ) (zs : List ℤ) → n ≤ length zs �
 unfolding paired
 thresholds-of zero xs zs k = refl
 thresholds-of (suc n) [] zs k = refl
-thresholds-of (suc n) (x ∷ xs) [] k = absurd (none k)
-  where
-    none : {n : ℕ} → suc n ≤ 0 → ⊥
-    none l = omega arith
+thresholds-of (suc n) (x ∷ xs) [] k = absurd (omega arith)
 thresholds-of (suc n) (x ∷ xs) (z ∷ zs) k = ap (λ (l : List ℕ). x ∷ l) (thresholds-of n xs zs (omega arith))
 
 offsets-of : (n : ℕ) (xs : List ℕ) (zs : List ℤ) → n ≤ length xs → map offset (slots xs zs n) ≡ take n zs
 unfolding paired
 offsets-of zero xs zs h = refl
-offsets-of (suc n) [] zs h = absurd (none h)
-  where
-    none : {n : ℕ} → suc n ≤ 0 → ⊥
-    none l = omega arith
+offsets-of (suc n) [] zs h = absurd (omega arith)
 offsets-of (suc n) (x ∷ xs) [] h = refl
 offsets-of (suc n) (x ∷ xs) (z ∷ zs) h = ap (λ (l : List ℤ). z ∷ l) (offsets-of n xs zs (omega arith))
 

@@ -1,13 +1,13 @@
 -- The first n slots of thresholds and offsets: how many they are, which entry stands in each, and what one more brings.
 use mathlib.Core.Path.{_≡_, refl, sym, ap, _∙_}
-use mathlib.Core.List.{List, [], _∷_, _++_, map}
+use mathlib.Core.List.{List, [], _∷_, _++_}
 use Prim.Native.Nat.{ℕ, zero, suc, _+_, _-_, _≤_, _<_, min}
 use native.Mathlib.Omega.{arith}
 use mathlib.Core.Option.{some, none}
 use lib.ListN.{length, getD, getElem?, set, take}
 use lib.Seq.{length-take-le, take-suc, take-suc-set, getD-take, take-all}
 use lib.IntN.{ℤ, pos}
-use Rattle.tables.specs.Entries.{Entry, threshold, offset, entry}
+use Rattle.tables.specs.Entries.{Entry, entry}
 use Rattle.tables.specs.Slots.{paired, slotAt, slots}
 
 pub room : (n : ℕ) (xs : List ℕ) (zs : List ℤ) → n ≤ length xs → n ≤ length zs → n ≤ length (paired xs zs)
@@ -29,14 +29,8 @@ pub held : (k : ℕ) (xs : List ℕ) (zs : List ℤ) (d : Entry) → k < length 
 unfolding paired
 held zero (x ∷ xs) (z ∷ zs) d h l = refl
 held (suc k) (x ∷ xs) (z ∷ zs) d h l = held k xs zs d (omega arith) (omega arith)
-held k [] zs d h l = absurd (none h)
-  where
-    none : {k : ℕ} → k < 0 → ⊥
-    none l = omega arith
-held k (x ∷ xs) [] d h l = absurd (none l)
-  where
-    none : {k : ℕ} → k < 0 → ⊥
-    none l = omega arith
+held k [] zs d h l = absurd (omega arith)
+held k (x ∷ xs) [] d h l = absurd (omega arith)
 
 pub stored : (n : ℕ) (xs : List ℕ) (zs : List ℤ) (x : ℕ) (z : ℤ) → paired (set xs n x) (set zs n z) ≡ set (paired xs zs) n (entry x z)
 unfolding paired
@@ -47,19 +41,13 @@ stored zero (y ∷ xs) (w ∷ zs) x z = refl
 stored (suc n) (y ∷ xs) (w ∷ zs) x z = ap (λ (es : List Entry). entry y w ∷ es) (stored n xs zs x z)
 
 pub some-at : (es : List Entry) (k : ℕ) (d : Entry) → k < length es → getElem? es k ≡ some (getD es k d)
-some-at [] k d l = absurd (none l)
-  where
-    none : {k : ℕ} → k < 0 → ⊥
-    none l = omega arith
+some-at [] k d l = absurd (omega arith)
 some-at (e ∷ es) zero d l = refl
 some-at (e ∷ es) (suc k) d l = some-at es k d (omega arith)
 
 pub none-at : (es : List Entry) (k : ℕ) → length es ≤ k → getElem? es k ≡ none
 none-at [] k l = refl
-none-at (e ∷ es) zero l = absurd (past l)
-  where
-    past : suc (length es) ≤ 0 → ⊥
-    past l = omega arith
+none-at (e ∷ es) zero l = absurd (omega arith)
 none-at (e ∷ es) (suc k) l = none-at es k (omega arith)
 
 module _ (xs : List ℕ) (zs : List ℤ) where

@@ -15,13 +15,7 @@ pub record Halves (xs : List ℕ) (n t low high : ℕ) : Type 0 where
 
 module _ (xs : List ℕ) (n t : ℕ) where
   pub whole : Halves xs n t 0 n
-  whole = record { order = omega arith; within = omega arith; below = λ i l. absurd (none l); above = λ i l l′. absurd (past l l′) }
-    where
-      none : {i : ℕ} → i < 0 → ⊥
-      none l = omega arith
-
-      past : {i : ℕ} → n ≤ i → i < n → ⊥
-      past l l′ = omega arith
+  whole = record { order = omega arith; within = omega arith; below = λ i l. absurd (omega arith); above = λ i l l′. absurd (omega arith) }
 
   pub met : (low high : ℕ) → Halves xs n t low high → high ≤ low → Passed xs n t low
   met low high h m =

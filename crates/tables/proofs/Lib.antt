@@ -11,6 +11,7 @@ pub mod Checked
 pub mod Growing
 pub mod Tested
 pub mod Extensions
+pub mod Buildings
 pub mod Lookups
 pub mod Tells
 pub mod Calls

@@ -1,14 +1,14 @@
 -- A lookup in a valid list answers by the last entry at or below the reading.
-use mathlib.Core.Path.{_≡_, refl, sym, ap, _∙_}
+use mathlib.Core.Path.{_≡_, ap, _∙_}
 use mathlib.Core.Bool.{true}
-use mathlib.Core.List.{List, []}
+use mathlib.Core.List.{List}
 use mathlib.Core.Option.{some}
 use Prim.Native.Nat.{ℕ, suc, _+_, _-_, _≤_, _<_}
 use native.Mathlib.Omega.{arith}
 use native.Mathlib.Decide.{decLt}
 use lib.ListN.{length, getD, getElem?}
 use lib.IntN.{pos}
-use Rattle.tables.specs.Entries.{Entry, threshold, offset, entry, valid, offsetAt}
+use Rattle.tables.specs.Entries.{Entry, threshold, offset, entry, valid}
 use Rattle.tables.specs.Promises.{Lookup}
 use Rattle.tables.proofs.FirstSlots.{some-at}
 use Rattle.tables.proofs.Neighbours.{rises-by}
@@ -26,11 +26,8 @@ module _ (es : List Entry) (t : ℕ) (v : valid es ≡ true) where
 
   -- a reading below the first threshold is below all
   below-all : (e : Entry) → getElem? es 0 ≡ some e → t < threshold e → Reached es d t 0
-  below-all e h l = record { within = omega arith; below = λ i b. absurd (none b); above = λ i a b. go i b (decLt 0 i) }
+  below-all e h l = record { within = omega arith; below = λ i b. absurd (omega arith); above = λ i a b. go i b (decLt 0 i) }
     where
-      none : {i : ℕ} → i < 0 → ⊥
-      none l = omega arith
-
       first : t < threshold (getD es 0 d)
       first = rw (at-place es 0 e d h) l
 

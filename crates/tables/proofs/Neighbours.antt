@@ -1,12 +1,12 @@
 -- Entries and the ones before them: the first refusal of a list, and what a valid list is at each place.
-use mathlib.Core.Path.{_≡_, refl, sym, ap, _∙_}
+use mathlib.Core.Path.{_≡_, refl, sym, _∙_}
 use mathlib.Core.Bool.{Bool, true, false, cond, _&&_}
 use mathlib.Core.List.{List, [], _∷_, _++_}
 use Prim.Native.Nat.{ℕ, zero, suc, _+_, _-_, _≤_, _<_}
 use native.Mathlib.Omega.{arith}
 use native.Mathlib.Decide.{decLt, ℕ-discrete}
-use borrow.Author.Tests.{le-leb, lt-leb, lt-ltb, le-ltb, ltb-true, eq-eqb, ne-eqb, eqb-true}
-use lib.Dec.{leb, ltb, eqb}
+use borrow.Author.Tests.{le-leb, lt-leb, lt-ltb, le-ltb, ltb-true, ne-eqb}
+use lib.Dec.{ltb, eqb}
 use lib.ListN.{length, getD}
 use lib.IntN.{ℤ, pos, _+ℤ_, ℤ-discrete}
 use mir.Syntax.{w32}
@@ -130,14 +130,8 @@ not-valid (x ∷ y ∷ before) p e behind n = and-false (follows x y) (not-valid
 pub at-each : (test : Entry → Entry → Bool) (es : List Entry) (d : Entry) → neighbours test es ≡ true
     → (k : ℕ) → suc k < length es → test (getD es k d) (getD es (suc k) d) ≡ true
 unfolding neighbours
-at-each test [] d v k l = absurd (none l)
-  where
-    none : {k : ℕ} → suc k < 0 → ⊥
-    none l = omega arith
-at-each test (p ∷ []) d v k l = absurd (none l)
-  where
-    none : {k : ℕ} → suc k < 1 → ⊥
-    none l = omega arith
+at-each test [] d v k l = absurd (omega arith)
+at-each test (p ∷ []) d v k l = absurd (omega arith)
 at-each test (p ∷ e ∷ es) d v zero l = both (test p e) (neighbours test (e ∷ es)) v .0
 at-each test (p ∷ e ∷ es) d v (suc k) l = at-each test (e ∷ es) d (both (test p e) (neighbours test (e ∷ es)) v .1) k (omega arith)
 

@@ -5,9 +5,9 @@ use mathlib.Core.List.{List, [], _∷_, _++_, append-assoc}
 use Prim.Native.Nat.{ℕ, zero, suc, _+_, _-_, _≤_, _<_}
 use native.Mathlib.Omega.{arith}
 use native.Mathlib.Decide.{ℕ-discrete}
-use lib.ListN.{length, getD, take, drop}
+use lib.ListN.{length, take, drop}
 use lib.Seq.{take-add}
-use lib.IntN.{ℤ, pos}
+use lib.IntN.{ℤ}
 use Rattle.tables.specs.Entries.{Entry, follows, valid, stepRefusal, firstRefusal}
 use Rattle.tables.specs.Slots.{paired, slotAt, slots}
 use Rattle.tables.proofs.FirstSlots.{one-more}
@@ -44,10 +44,7 @@ module _ (xs : List ℕ) (zs : List ℤ) where
   -- behind slots that pass, the slot at i is judged by the one before it
   pub next-refusal : (i : ℕ) → 1 ≤ i → i < length xs → i < length zs → firstRefusal (slots xs zs i) ≡ 0
       → firstRefusal (slots xs zs (suc i)) ≡ stepRefusal (slotAt xs zs (i - 1)) (slotAt xs zs i)
-  next-refusal zero p h k z = absurd (none p)
-    where
-      none : 1 ≤ 0 → ⊥
-      none l = omega arith
+  next-refusal zero p h k z = absurd (omega arith)
   next-refusal (suc j) p h k z =
       let s : suc j - 1 ≡ j = omega arith in
       rw (last-two j h k, s)
@@ -56,10 +53,7 @@ module _ (xs : List ℕ) (zs : List ℤ) where
   -- a slot that does not follow the one before it makes all invalid
   pub invalid-at : (i n : ℕ) → 1 ≤ i → i < n → n ≤ length xs → n ≤ length zs → follows (slotAt xs zs (i - 1)) (slotAt xs zs i) ≡ false
       → valid (slots xs zs n) ≡ false
-  invalid-at zero n p l h k f = absurd (none p)
-    where
-      none : 1 ≤ 0 → ⊥
-      none l = omega arith
+  invalid-at zero n p l h k f = absurd (omega arith)
   invalid-at (suc j) n p l h k f =
       let s : suc j - 1 ≡ j = omega arith in
       let behind = take (n - suc (suc j)) (drop (suc (suc j)) (paired xs zs)) in

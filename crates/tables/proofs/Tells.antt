@@ -3,6 +3,7 @@ use mathlib.Core.Path.{_≡_, sym, ap, _∙_}
 use Prim.Native.Nat.{ℕ}
 use Rattle.refusals.specs.Number.{numberOf}
 use Rattle.refusals.proofs.Tells.{number-tells}
+use Rattle.scales.proofs.Tells.{tai-count-tells}
 use Rattle.tables.specs.Answers.{takenIn, extensionIn, lengthIn, emptyIn, entryIn, updateIn, offsetIn}
 use Rattle.tables.specs.declared.LeapTable.{LeapTable}
 use Rattle.tables.specs.declared.Extension.{Extension}
@@ -63,7 +64,9 @@ entry-tells (entry.Refused r) (entry.Refused s) e =
     ap entry.Refused (number-tells r s same)
 
 pub update-tells : (x y : UpdateAnswer) → updateIn x ≡ updateIn y → x ≡ y
-update-tells (update.At a) (update.At b) e = cc
+update-tells (update.At a) (update.At b) e =
+    let same : a .0 ≡ b .0 = cc in
+    ap update.At (tai-count-tells a b same)
 update-tells (update.At a) update.Nothing e = cc
 update-tells (update.At a) (update.Refused r) e = cc
 update-tells update.Nothing (update.At b) e = cc

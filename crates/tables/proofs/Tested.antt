@@ -1,27 +1,20 @@
 -- The tests of lists, turned into the facts that they test.
-use mathlib.Core.Path.{_≡_, refl, sym, ap, _∙_}
-use mathlib.Core.Bool.{Bool, true, _&&_}
-use mathlib.Core.List.{List, [], _∷_, _++_}
+use mathlib.Core.Path.{_≡_, sym, ap, _∙_}
+use mathlib.Core.Bool.{true, _&&_}
+use mathlib.Core.List.{List, [], _∷_}
 use mathlib.Core.Option.{some, none}
-use Prim.Native.Nat.{ℕ, zero, suc, _+_, _≤_, _<_}
+use Prim.Native.Nat.{ℕ, suc, _+_, _<_}
 use native.Mathlib.Omega.{arith}
-use native.Mathlib.Decide.{decLt, decLe, ℕ-discrete}
-use native.Mathlib.Numerals.{add-one}
-use borrow.Author.Tests.{leb-true, eqb-true, lt-ltb, le-leb, lt-leb}
+use native.Mathlib.Decide.{decLt}
+use borrow.Author.Tests.{leb-true, eqb-true}
 use lib.Dec.{leb, eqb}
-use lib.ListN.{length, getD, getElem?, length-append}
-use lib.Seq.{getD-set-other}
-use lib.IntN.{ℤ, pos, _+ℤ_}
-use Rattle.tables.specs.Entries.{Entry, threshold, offset, entry, equal, neighbours, follows, aDayOn, day, valid, begins, regular, lastOr, stepRefusal, joinRefusal, offsetAt}
-use Rattle.tables.specs.Slots.{entriesOf, validTable, joinedTo, extended}
-use Rattle.tables.specs.Promises.{Valid, Regular, Sized, Grows, Lookup}
-use Rattle.tables.specs.declared.LeapEntry.{LeapEntry}
-use Rattle.tables.specs.declared.LeapTable.{LeapTable}
+use lib.ListN.{length, getD, getElem?}
+use lib.IntN.{pos}
+use Rattle.tables.specs.Entries.{Entry, threshold, offset, entry, equal, neighbours, aDayOn, day, valid, begins, regular}
+use Rattle.tables.specs.Promises.{Valid, Regular}
 use Rattle.tables.proofs.Integers.{equal-true}
-use Rattle.tables.proofs.FirstSlots.{one-stored, slots-length, some-at, none-at}
-use Rattle.tables.proofs.Neighbours.{both, at-each, valid-at-each, rises-by, zero-follows}
-use Rattle.tables.proofs.InForce.{Reached, in-force, none-in-force}
-use Rattle.tables.proofs.Checked.{Checked, checked}
+use Rattle.tables.proofs.FirstSlots.{some-at, none-at}
+use Rattle.tables.proofs.Neighbours.{both, at-each, valid-at-each}
 
 -- the entry at a place, where there is one
 module _ (es : List Entry) (k : ℕ) (e d : Entry) (h : getElem? es k ≡ some e) where

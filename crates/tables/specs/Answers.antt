@@ -44,7 +44,7 @@ entryIn entry.Nothing = answered none
 entryIn (entry.Refused r) = refused (numberOf r)
 
 abbrev pub updateIn : UpdateAnswer → Outcome (Option ℕ)
-updateIn (update.At t) = answered (some t)
+updateIn (update.At t) = answered (some (t .0))
 updateIn update.Nothing = answered none
 updateIn (update.Refused r) = refused (numberOf r)
 

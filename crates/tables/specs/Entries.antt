@@ -6,6 +6,7 @@ use Prim.Native.Nat.{ℕ, _+_, _*_}
 use lib.Dec.{ltb, leb, eqb}
 use lib.ListN.{length}
 use lib.IntN.{ℤ, pos, negsuc, _+ℤ_}
+use Rattle.counts.specs.Units.{second, daySeconds}
 use Rattle.refusals.specs.Outcome.{Outcome, answered, refused}
 use Rattle.tables.specs.declared.LeapEntry.{LeapEntry}
 
@@ -43,7 +44,7 @@ valid es = neighbours follows es
 
 -- a day of 86,400 s, in nanoseconds
 abbrev pub day : ℕ
-day = 86_400 * 1_000_000_000
+day = daySeconds * second
 
 abbrev pub aDayOn : Entry → Entry → Bool
 aDayOn p e = leb (threshold p + day) (threshold e)

@@ -1,4 +1,4 @@
--- What is promised of tables: what the tests test, what an extension leaves, and which entry a lookup answers by.
+-- What is promised of tables: what the tests test, what an extension or a building leaves, and which entry a lookup answers by.
 use mathlib.Core.Path.{_≡_}
 use mathlib.Core.Bool.{true}
 use mathlib.Core.List.{List, [], _∷_, _++_}
@@ -35,6 +35,12 @@ pub record Grows (t : LeapTable) (e : LeapEntry) (after : LeapTable) : Type 0 wh
   pub thresholds : (i : ℕ) → (i ≡ t .len → ⊥) → getD (after .thresholds) i 0 ≡ getD (t .thresholds) i 0
   pub offsets : (i : ℕ) → (i ≡ t .len → ⊥) → getD (after .offsets) i (pos 0) ≡ getD (t .offsets) i (pos 0)
   pub valid : validTable after ≡ true
+
+-- the table after an accepted building: the list itself, its length that list's length
+pub record Builds (es : List Entry) (table : LeapTable) : Type 0 where
+  pub list : entriesOf table ≡ es
+  pub size : table .len ≡ length es
+  pub valid : validTable table ≡ true
 
 -- the offset in force at t, by the entry that gives it
 pub record Lookup (es : List Entry) (t : ℕ) : Type 0 where

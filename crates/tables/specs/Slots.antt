@@ -36,8 +36,11 @@ abbrev pub validTable : LeapTable → Bool
 validTable t = validSlots (t .thresholds) (t .offsets) (t .len)
 
 -- a call with a table: 8 first
+abbrev pub ofValidSlots : {A : Type 0} → List ℕ → List ℤ → ℕ → Outcome A → Outcome A
+ofValidSlots xs zs n a = cond (validSlots xs zs n) a (refused 8)
+
 abbrev pub ofValid : {A : Type 0} → LeapTable → Outcome A → Outcome A
-ofValid t a = cond (validTable t) a (refused 8)
+ofValid t a = ofValidSlots (t .thresholds) (t .offsets) (t .len) a
 
 -- the table of a list: its entries, and (0, 0) in the slots past them
 abbrev pub tableOf : List Entry → LeapTable

@@ -10,11 +10,12 @@ ghost use Rattle.tables.specs.Search.{Rises, Passed};
 ghost use Rattle.tables.specs.Answers.{takenIn};
 use crate::LeapEntry;
 use crate::LeapTable;
+use crate::RUNTIME_CAPACITY;
 use crate::Taken;
 use refusals::Refusal;
 
 // The largest offset, after which no entry can follow.
-const LARGEST_OFFSET: i32 = 2147483647;
+const LARGEST_OFFSET: i32 = 2_147_483_647;
 
 // The offset in force at every reading of a table with no entry, that of the GPS epoch.
 pub const OFFSET_OF_NO_ENTRY: i32 = 19;
@@ -74,7 +75,7 @@ pub fn first_refusal<'a>(thresholds: &'a [u64], offsets: &'a [i32], n: usize) ->
 pub fn is_valid<'a>(thresholds: &'a [u64; 64], offsets: &'a [i32; 64], n: usize) -> bool
     ensures { λ r. ⌜ r ≡ validSlots (now (thresholds .entry)) (now (offsets .entry)) n ⌝ }
 {
-    if 64 < n {
+    if RUNTIME_CAPACITY < n {
         return false;
     }
     match first_refusal(thresholds, offsets, n) {
@@ -125,7 +126,7 @@ pub fn joins<'a>(thresholds: &'a [u64], offsets: &'a [i32], n: usize, entry: Lea
     if n == 0 {
         return Taken::Done;
     }
-    if 64 <= n {
+    if RUNTIME_CAPACITY <= n {
         return Taken::Refused(Refusal::BufferFull);
     }
     step(slot(thresholds, offsets, n - 1), entry)

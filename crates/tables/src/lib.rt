@@ -1,14 +1,32 @@
 // Leap-second tables, after leap.rs: building, extension, and the offset TAI minus UTC in force at a TAI reading.
 // A caller may make a table by hand, so every call with a table tests it first, and refuses 8 where it is not valid.
 pub mod inner;
+pub mod lent;
 pub mod table;
 
+ghost use mathlib.Core.Path.{_≡_};
+ghost use Rattle.tables.specs.Entries.{entry};
 use refusals::Refusal;
+use scales::tai::Tai;
+
+// The most entries that a table holds.
+pub const RUNTIME_CAPACITY: usize = 64;
 
 // From the TAI reading `tai_nanos` on, TAI is `tai_minus_utc` seconds ahead of UTC.
 pub struct LeapEntry {
     pub tai_nanos: u64,
     pub tai_minus_utc: i32,
+}
+
+impl LeapEntry {
+    pub fn new(tai_nanos: u64, tai_minus_utc: i32) -> Self
+        ensures { λ r. ⌜ r ≡ entry «tai_nanos» «tai_minus_utc» ⌝ }
+    {
+        LeapEntry {
+            tai_nanos,
+            tai_minus_utc,
+        }
+    }
 }
 
 // Up to 64 entries: those in the first `len` slots.
@@ -47,9 +65,9 @@ pub enum EntryAnswer {
     Refused(Refusal),
 }
 
-// The TAI nanoseconds of the last event, or nothing.
+// The TAI count of the last event, or nothing.
 pub enum UpdateAnswer {
-    At(u64),
+    At(Tai),
     Nothing,
     Refused(Refusal),
 }

@@ -15,10 +15,13 @@ use crate::LeapEntry;
 use crate::LeapTable;
 use crate::LengthAnswer;
 use crate::OffsetAnswer;
+use crate::RUNTIME_CAPACITY;
 use crate::Taken;
 use crate::UpdateAnswer;
 use crate::inner;
+use crate::lent;
 use refusals::Refusal;
+use scales::tai::Tai;
 
 impl LeapTable {
     // The table with no entry.
@@ -40,7 +43,7 @@ impl LeapTable {
         if n == 0 {
             return unbuilt(Refusal::EmptyTable);
         }
-        if 64 < n {
+        if RUNTIME_CAPACITY < n {
             return unbuilt(Refusal::BufferFull);
         }
         match inner::first_refusal(thresholds, offsets, n) {
@@ -116,7 +119,7 @@ impl LeapTable {
             return UpdateAnswer::Refused(Refusal::BadTable);
         }
         if 1 < n {
-            UpdateAnswer::At(self.thresholds[n - 1])
+            UpdateAnswer::At(Tai(self.thresholds[n - 1]))
         } else {
             UpdateAnswer::Nothing
         }
@@ -138,15 +141,11 @@ impl LeapTable {
     }
 
     // The offset in force at a TAI reading.
-    pub fn tai_minus_utc_at(self, tai: u64) -> OffsetAnswer
-        ensures { λ r. ⌜ offsetIn r ≡ ofValid self (answered (offsetAt (entriesOf self) tai)) ⌝ }
+    pub fn tai_minus_utc_at(self, tai: Tai) -> OffsetAnswer
+        ensures { λ r. ⌜ offsetIn r ≡ ofValid self (answered (offsetAt (entriesOf self) (tai .0))) ⌝ }
     {
         let n = self.len;
-        if inner::is_valid(&self.thresholds, &self.offsets, n) {
-            OffsetAnswer::Offset(inner::offset_at(&self.thresholds, &self.offsets, n, tai))
-        } else {
-            OffsetAnswer::Refused(Refusal::BadTable)
-        }
+        lent::tai_minus_utc_at(&self.thresholds, &self.offsets, n, tai)
     }
 }
 

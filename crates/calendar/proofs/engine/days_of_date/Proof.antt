@@ -47,7 +47,8 @@ returns c =
     let date = up .before .before .args .date in
     let fits : SFits w32 (date .year) = record { sfits = omega (arith, up .before) } in
     toZ-ofZ {w = w64} (record { sfits = c .lowered .ok }) ∙ c .lowered .ensures
-    ∙ of-lifted (date .year) (date .month) (date .day) (up .lifted .result) (month .before .days-before-year .result) (month .days-before-month .result)
+    ∙ of-lifted (date .year) (date .month) (date .day) (up .lifted .result) (month .before .days-before-year .result)
+    (month .days-before-month .result)
     (subst (λ (y : ℤ). Lifted y (up .lifted .result)) (toZ-ofZ fits) (up .lifted .ensures))
     (month .before .days-before-year .ensures ∙ ap daysInYears (march .from-march .ensures .year-is))
     (month .days-before-month .ensures ∙ ap monthStart (march .from-march .ensures .month-is))

@@ -1,0 +1,70 @@
+-- Numbers of one width in bytes, read and written a number at a turn.
+use mathlib.Core.Path.{_≡_, refl, sym, ap, _∙_}
+use mathlib.Core.List.{List, [], _∷_, _++_, map, map-append, append-nil}
+use Prim.Native.Nat.{ℕ, zero, suc, _+_, _-_, _*_, _≤_, _<_}
+use native.Mathlib.Nat.{add-zero, mul-zero, mul-suc}
+use native.Mathlib.Numerals.{add-one}
+use native.Mathlib.Omega.{arith}
+use lib.ListN.{length, getD, take, drop, set, length-append}
+use lib.Seq.{take-suc-set, drop-cons, drop-drop, drop-length, sets, sets-eq}
+use Rattle.images.specs.Image.{numberIn, bytesOf, numbersIn, bytesOfAll}
+
+-- one number more at the end
+field-more : (k stride n : ℕ) (bs : List ℕ) → numbersIn k stride (suc n) bs ≡ numbersIn k stride n bs ++ (numberIn (take k (drop (stride * n) bs)) ∷ [])
+unfolding numbersIn
+field-more k stride zero bs = rw mul-zero
+field-more k stride (suc n) bs =
+    let further : stride + stride * n ≡ stride * suc n = sym (mul-suc stride n ∙ omega arith) in
+    ap (λ (l : List ℕ). numberIn (take k bs) ∷ l)
+    (field-more k stride n (drop stride bs)
+    ∙ ap (λ (l : List ℕ). numbersIn k stride n (drop stride bs) ++ (numberIn (take k l) ∷ [])) (drop-drop (stride * n) stride bs ∙ ap (λ (j : ℕ). drop j bs) further))
+
+-- the first i slots hold the first i numbers, and the next number is put into the slot behind them
+module _ {A : Type 0} (f : ℕ → A) (k stride start : ℕ) (b : List ℕ) where
+  pub none-kept : _≡_ {A = List A} [] (map f (numbersIn k stride 0 (drop start b)))
+  unfolding numbersIn
+  none-kept = refl
+
+  pub field-kept : (kept : List A) (i : ℕ) (v : A) → i < length kept
+      → take i kept ≡ map f (numbersIn k stride i (drop start b)) → v ≡ f (numberIn (take k (drop (start + stride * i) b)))
+      → take (i + 1) (set kept i v) ≡ map f (numbersIn k stride (i + 1) (drop start b))
+  field-kept kept i v h e g =
+      let next = ap (λ (l : List ℕ). numberIn (take k l)) (drop-drop (stride * i) start b) in
+      rw (add-one, take-suc-set kept i v h, field-more k stride i (drop start b), map-append, e, g, next)
+
+pub bytes-count : (k n : ℕ) → length (bytesOf k n) ≡ k
+unfolding bytesOf
+bytes-count zero n = refl
+bytes-count (suc k) n = ap suc (bytes-count k _)
+
+pub all-bytes-count : (k : ℕ) (ns : List ℕ) → length (bytesOfAll k ns) ≡ k * length ns
+unfolding bytesOfAll
+all-bytes-count k [] = sym (mul-zero k)
+all-bytes-count k (n ∷ ns) =
+    length-append (bytesOf k n) (bytesOfAll k ns) ∙ rw (bytes-count, all-bytes-count k ns, mul-suc) (omega arith)
+
+-- two runs of stores, the second from where the first ends
+pub sets-sets : {A : Type 0} (l vs ws : List A) (i j : ℕ) → j ≡ i + length vs → sets (sets l i vs) j ws ≡ sets l i (vs ++ ws)
+sets-sets {A} l [] ws i j e = let s : j ≡ i = omega arith in ap (λ (k : ℕ). sets l k ws) s
+sets-sets l (v ∷ vs) ws i j e = sets-sets (set l i v) vs ws (suc i) j (omega arith)
+
+-- a run of stores over a whole list
+pub sets-all : (l vs : List ℕ) → length vs ≡ length l → sets l 0 vs ≡ vs
+sets-all l vs e =
+    sets-eq vs l 0 (omega arith) ∙ ap (λ (n : ℕ). vs ++ drop n l) whole ∙ ap (λ (r : List ℕ). vs ++ r) (drop-length l) ∙ append-nil vs
+  where
+    whole : 0 + length vs ≡ length l
+    whole = omega arith
+
+-- what is left to be written, one number fewer
+pub field-written : (out ns : List ℕ) (k start i v : ℕ) → i < length ns → v ≡ getD ns i 0
+    → sets (sets out (start + k * i) (bytesOf k v)) (start + k * (i + 1)) (bytesOfAll k (drop (i + 1) ns)) ≡ sets out (start + k * i) (bytesOfAll k (drop i ns))
+unfolding bytesOfAll
+field-written out ns k start i v h e =
+    let further : start + k * (i + 1) ≡ start + k * i + length (bytesOf k v) = rw (add-one, mul-suc, bytes-count) (omega arith) in
+    sets-sets out (bytesOf k v) (bytesOfAll k (drop (i + 1) ns)) (start + k * i) (start + k * (i + 1)) further
+    ∙ rw (add-one, drop-cons ns i 0 h, e)
+
+pub all-fields-written : (out ns : List ℕ) (k at i : ℕ) → i ≡ length ns → sets out at (bytesOfAll k (drop i ns)) ≡ out
+unfolding bytesOfAll
+all-fields-written out ns k at i e = rw (e, drop-length)

@@ -1,0 +1,90 @@
+-- A table and its image tell the same.
+use mathlib.Core.Path.{_≡_, refl, sym, ap, _∙_}
+use mathlib.Core.List.{List, [], _++_, map, append-assoc, append-nil}
+use Prim.Native.Nat.{ℕ, _^_}
+use native.Mathlib.Omega.{arith}
+use lib.ListN.{length, getD, take, drop, length-append, length-drop, length-map, List·getD-map}
+use lib.Seq.{take-at, drop-at, take-add, take-all}
+use lib.IntN.{ℤ, pos}
+use mir.Syntax.{w32}
+use mir.Val.{Fits, toZ, ofZ}
+use mir.Facts.{toZ-ofZ, ofZ-toZ, fits-ofZ}
+use Rattle.tables.specs.declared.LeapTable.{LeapTable}
+use Rattle.images.specs.Image.{numberIn, bytesOf, numbersIn, bytesOfAll, tableIn, imageOf}
+use Rattle.images.specs.Promises.{Below, Typed, NothingLost}
+use Rattle.images.proofs.Fields.{bytes-count}
+use Rattle.images.proofs.Inverses.{undone, below-drop, number-of-bytes, bytes-of-part, numbers-of-bytes, bytes-of-numbers, numbers-below}
+use Rattle.images.proofs.Whole.{tableOfParts, threshold-bytes, image-count}
+
+module _ (t : LeapTable) (h : Typed t) where
+  abbrev front : List ℕ
+  front = bytesOf 8 (t .len)
+
+  abbrev middle : List ℕ
+  middle = bytesOfAll 8 (t .thresholds)
+
+  abbrev bits : List ℕ
+  bits = map (ofZ w32) (t .offsets)
+
+  abbrev back : List ℕ
+  back = bytesOfAll 4 bits
+
+  parted : front ++ middle ++ back ≡ front ++ (middle ++ back)
+  parted = append-assoc front middle back
+
+  len-kept : numberIn (take 8 (front ++ middle ++ back)) ≡ t .len
+  len-kept =
+      ap (λ (l : List ℕ). numberIn (take 8 l)) parted ∙ ap numberIn (take-at front (middle ++ back) 8 (bytes-count 8 (t .len)))
+      ∙ number-of-bytes 8 (t .len) (h .len)
+
+  thresholds-kept : numbersIn 8 8 64 (drop 8 (front ++ middle ++ back)) ≡ t .thresholds
+  thresholds-kept =
+      ap (λ (l : List ℕ). numbersIn 8 8 64 (drop 8 l)) parted
+      ∙ ap (numbersIn 8 8 64) (drop-at front (middle ++ back) 8 (bytes-count 8 (t .len)))
+      ∙ ap (λ (n : ℕ). numbersIn 8 8 n (middle ++ back)) (sym (h .sized .thresholds))
+      ∙ numbers-of-bytes 8 (t .thresholds) back (h .thresholds)
+
+  bits-fit : Below (2 ^ 32) bits
+  bits-fit i = rw (List·getD-map (ofZ w32) (t .offsets) i (pos 0)) (fits-ofZ {w = w32} (h .offsets i) .fits)
+
+  offsets-kept : map (toZ w32) (numbersIn 4 4 64 (drop 520 (front ++ middle ++ back))) ≡ t .offsets
+  offsets-kept =
+      ap (λ (l : List ℕ). map (toZ w32) (numbersIn 4 4 64 l)) (drop-at (front ++ middle) back 520 before ∙ sym (append-nil back))
+      ∙ ap (λ (n : ℕ). map (toZ w32) (numbersIn 4 4 n (back ++ []))) (sym (length-map (t .offsets) (ofZ w32) ∙ h .sized .offsets))
+      ∙ ap (map (toZ w32)) (numbers-of-bytes 4 bits [] bits-fit)
+      ∙ undone (pos 0) (ofZ w32) (toZ w32) (t .offsets) (λ i. toZ-ofZ (h .offsets i))
+    where
+      before : length (front ++ middle) ≡ 520
+      before = length-append front middle ∙ omega (arith, bytes-count 8 (t .len), threshold-bytes t (h .sized .thresholds) (h .sized .offsets))
+
+  table-kept : tableIn (imageOf t) ≡ t
+  unfolding tableIn imageOf
+  table-kept = λ i. tableOfParts (thresholds-kept i) (offsets-kept i) (len-kept i)
+
+module _ (b : List ℕ) (h : Below 256 b) (l : length b ≡ 776) where
+  thresholds-back : bytesOfAll 8 (numbersIn 8 8 64 (drop 8 b)) ≡ take 512 (drop 8 b)
+  thresholds-back = bytes-of-numbers 8 64 (drop 8 b) (below-drop 8 b h) (rw length-drop (omega arith))
+
+  held : List ℕ
+  held = numbersIn 4 4 64 (drop 520 b)
+
+  offsets-back : bytesOfAll 4 (map (ofZ w32) (map (toZ w32) held)) ≡ take 256 (drop 520 b)
+  unfolding held
+  offsets-back =
+      let bytes = below-drop 520 b h in
+      let fits : (i : ℕ) → Fits w32 (getD held i 0) = λ i. record { fits = numbers-below 4 4 64 (drop 520 b) bytes i } in
+      ap (bytesOfAll 4) (undone 0 (toZ w32) (ofZ w32) held (λ i. ofZ-toZ (fits i)))
+      ∙ bytes-of-numbers 4 64 (drop 520 b) bytes (rw length-drop (omega arith))
+
+  -- 8, 512 and 256 bytes one after the other are all 776
+  joined : take 8 b ++ take 512 (drop 8 b) ++ take 256 (drop 520 b) ≡ b
+  joined =
+      ap (λ (front : List ℕ). front ++ take 256 (drop 520 b)) (sym (take-add 8 512 b)) ∙ sym (take-add 520 256 b)
+      ∙ take-all 776 b (omega arith)
+
+  image-kept : imageOf (tableIn b) ≡ b
+  unfolding tableIn imageOf held
+  image-kept = (λ i. bytes-of-part 8 b h (omega arith) i ++ thresholds-back i ++ offsets-back i) ∙ joined
+
+pub nothing-lost : NothingLost
+nothing-lost = record { table = table-kept; image = image-kept; size = λ t s. image-count t (s .thresholds) (s .offsets) }

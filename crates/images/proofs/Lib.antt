@@ -1,0 +1,8 @@
+pub mod Bytes
+pub mod Complement
+pub mod Fields
+pub mod Whole
+pub mod ListedEntries
+pub mod Inverses
+pub mod ImageTheorems
+pub mod Calls

@@ -1,0 +1,35 @@
+-- A list of entries in bytes: thresholds and offsets taken apart are its entries.
+use mathlib.Core.Path.{_≡_, refl, ap, _∙_, sym}
+use mathlib.Core.Bool.{cond}
+use mathlib.Core.List.{List, _∷_, map}
+use Prim.Native.Nat.{ℕ, zero, suc, _%_}
+use borrow.Author.Tests.{eq-eqb, ne-eqb}
+use lib.Dec.{eqb}
+use lib.ListN.{length, take, drop}
+use lib.Seq.{drop-drop}
+use mir.Syntax.{w32}
+use mir.Val.{toZ}
+use Rattle.tables.specs.Entries.{Entry, entry}
+use Rattle.tables.specs.Slots.{paired}
+use Rattle.images.specs.Image.{numberIn, numbersIn, entriesFrom}
+
+pub entries-paired : (n : ℕ) (b : List ℕ) → paired (numbersIn 8 12 n b) (map (toZ w32) (numbersIn 4 12 n (drop 8 b))) ≡ entriesFrom n b
+unfolding paired numbersIn entriesFrom
+entries-paired zero b = refl
+entries-paired (suc n) b =
+    ap (λ (es : List Entry). entry (numberIn (take 8 b)) (toZ w32 (numberIn (take 4 (drop 8 b)))) ∷ es)
+    (ap (λ (l : List ℕ). paired (numbersIn 8 12 n (drop 12 b)) (map (toZ w32) (numbersIn 4 12 n l))) (drop-drop 12 8 b ∙ sym (drop-drop 8 12 b))
+    ∙ entries-paired n (drop 12 b))
+
+pub entries-count : (n : ℕ) (b : List ℕ) → length (entriesFrom n b) ≡ n
+unfolding entriesFrom
+entries-count zero b = refl
+entries-count (suc n) b = ap suc (entries-count n (drop 12 b))
+
+-- the test of the size decides
+module _ {A : Type 0} (b : List ℕ) (x y : A) where
+  pub whole-entries : length b % 12 ≡ 0 → x ≡ cond (eqb (length b % 12) 0) x y
+  whole-entries h = rw (eq-eqb (length b % 12) 0 h)
+
+  pub not-whole : (length b % 12 ≡ 0 → ⊥) → y ≡ cond (eqb (length b % 12) 0) x y
+  not-whole h = rw (ne-eqb (length b % 12) 0 h)

@@ -1,0 +1,82 @@
+-- `extend` meets its contract.
+use mathlib.Core.Path.{_≡_, sym, ap, _∙_}
+use mathlib.Core.List.{List}
+use Prim.Native.Nat.{ℕ}
+use denote.Ref.{now}
+use Rattle.images.proofs.Whole.{of-size, not-of-size, refusal-stored, table-stored}
+use mir.Facts.{toZ-ofZ}
+use Rattle.tables.specs.Answers.{takenIn, extensionIn}
+use Rattle.tables.specs.Entries.{entry}
+use Rattle.tables.specs.Slots.{extended}
+use Rattle.tables.proofs.RefusalNumbers.{number-not-zero}
+use Rattle.images.specs.Image.{tableIn, stored}
+use borrow.Author.Needs.{needs}
+use Rattle.images.proofs.extend.Statement.{statement}
+use Rattle.images.proofs.extend.Tie as tie
+
+returns : tie.Need-returns
+returns c = not-of-size (now (c .before .before .args .image)) _ _ (c .if1 .taken)
+
+table-in-requires : tie.Need-table-in-requires
+table-in-requires c κs = search needs
+
+try-extend-requires : tie.Need-try-extend-requires
+try-extend-requires c κs = search needs
+
+-- the answer and the table are those of the extension of the table in the image
+extends : (c : tie.After-try-extend)
+    → let a = c .before .before .before .before .before .args in
+    extensionIn (c .try-extend .result) ≡ extended (tableIn (now (a .image))) (entry (a .tai-nanos) (a .tai-minus-utc))
+extends c =
+    let start = c .before .before .before .before .before in
+    c .try-extend .ensures
+    ∙ (λ i. extended (c .before .table-in .ensures i) (entry (start .args .tai-nanos) (toZ-ofZ (start .fits .tai-minus-utc) i)))
+
+enum-known-answer : tie.Need-enum-known-answer
+enum-known-answer c = search needs
+
+same-length : tie.Need-same-length
+same-length c = search needs
+
+returns-2 : tie.Need-returns-2
+returns-2 c =
+    let after = c .before .before .before in
+    let a = after .before .before .before .before .before .args in
+    let b = now (a .image) in
+    refusal-stored b _ _ (ap takenIn (c .before .answer .given .1)) (number-not-zero (c .before .answer .given .0 .0))
+    ∙ ap (stored b) (extends after) ∙ of-size b _ _ (search needs)
+
+enum-told : tie.Need-enum-told
+enum-told c = search needs
+
+put-table-requires : tie.Need-put-table-requires
+put-table-requires c κs = search needs
+
+same-length-2 : tie.Need-same-length-2
+same-length-2 c = search needs
+
+returns-3 : tie.Need-returns-3
+returns-3 c =
+    let put = c .before .before in
+    let told = put .before .before .before in
+    let after = told .before .before in
+    let a = after .before .before .before .before .before .args in
+    let b = now (a .image) in
+    ap (λ (l : List ℕ). (0, l)) (put .put-table .ensures)
+    ∙ table-stored b _ (ap takenIn (told .enum-told .given .1))
+    ∙ ap (stored b) (extends after) ∙ of-size b _ _ (search needs)
+
+pub extend-spec : {M : Type 1} → statement M
+extend-spec =
+    tie.close
+    (tie.spec
+    returns
+    table-in-requires
+    try-extend-requires
+    enum-known-answer
+    same-length
+    returns-2
+    enum-told
+    put-table-requires
+    same-length-2
+    returns-3)

@@ -1,0 +1,16 @@
+-- `inner::no_table` gives the refusal and the table with no entry.
+use mathlib.Core.Path.{ap}
+use borrow.Author.Needs.{needs}
+use Rattle.refusals.specs.Number.{numberOf}
+use Rattle.tables.specs.declared.LeapTable.{LeapTable}
+use Rattle.images.proofs.inner.no_table.Statement.{statement}
+use Rattle.images.proofs.inner.no_table.Tie as tie
+
+new-requires : tie.Need-new-requires
+new-requires c κs = search needs
+
+returns : tie.Need-returns
+returns c = ap (λ (t : LeapTable). (numberOf (c .before .args .why), t)) (c .new .ensures)
+
+pub no-table-spec : {M : Type 1} → statement M
+no-table-spec = tie.close (tie.spec new-requires returns)

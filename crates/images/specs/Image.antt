@@ -1,0 +1,74 @@
+-- Leap-second tables and entries as bytes, low byte first.
+use mathlib.Core.Bool.{Bool, cond}
+use mathlib.Core.List.{List, [], _∷_, _++_, map}
+use Prim.Native.Nat.{ℕ, zero, suc, _+_, _*_, _/_, _%_}
+use lib.Dec.{eqb}
+use lib.ListN.{length, take, drop}
+use mir.Syntax.{w32}
+use mir.Val.{toZ, ofZ}
+use Rattle.tables.specs.Entries.{Entry, entry}
+use Rattle.tables.specs.Slots.{tableOf, built, extended}
+use Rattle.tables.specs.declared.LeapTable.{LeapTable}
+
+-- the number that bytes hold
+unfoldable pub numberIn : List ℕ → ℕ
+numberIn [] = 0
+numberIn (b ∷ bs) = b + 256 * numberIn bs
+
+-- a number in k bytes
+unfoldable pub bytesOf : ℕ → ℕ → List ℕ
+bytesOf zero n = []
+bytesOf (suc k) n = n % 256 ∷ bytesOf k (n / 256)
+
+-- n numbers of k bytes each, every one `stride` bytes after the one before
+unfoldable pub numbersIn : (k stride n : ℕ) → List ℕ → List ℕ
+numbersIn k stride zero bs = []
+numbersIn k stride (suc n) bs = numberIn (take k bs) ∷ numbersIn k stride n (drop stride bs)
+
+-- numbers in k bytes each, one after the other
+unfoldable pub bytesOfAll : ℕ → List ℕ → List ℕ
+bytesOfAll k [] = []
+bytesOfAll k (n ∷ ns) = bytesOf k n ++ bytesOfAll k ns
+
+-- an image: a length of 8 bytes, 64 thresholds of 8, 64 offsets of 4
+abbrev pub sized : List ℕ → Bool
+sized b = eqb (length b) 776
+
+-- the table that an image holds; an offset is the number whose two's complement its 4 bytes are
+unfoldable pub tableIn : List ℕ → LeapTable
+tableIn b = record {
+  thresholds = numbersIn 8 8 64 (drop 8 b);
+  offsets = map (toZ w32) (numbersIn 4 4 64 (drop 520 b));
+  len = numberIn (take 8 b);
+}
+
+unfoldable pub imageOf : LeapTable → List ℕ
+imageOf t = bytesOf 8 (t .len) ++ bytesOfAll 8 (t .thresholds) ++ bytesOfAll 4 (map (ofZ w32) (t .offsets))
+
+-- n entries of 12 bytes: 8 of the threshold, 4 of the offset
+unfoldable pub entriesFrom : ℕ → List ℕ → List Entry
+entriesFrom zero bs = []
+entriesFrom (suc n) bs = entry (numberIn (take 8 bs)) (toZ w32 (numberIn (take 4 (drop 8 bs)))) ∷ entriesFrom n (drop 12 bs)
+
+abbrev pub entriesIn : List ℕ → List Entry
+entriesIn b = entriesFrom (length b / 12) b
+
+-- 0 and the table of an image, or 8 and the empty table
+abbrev pub imageRead : List ℕ → ℕ × LeapTable
+imageRead b = cond (sized b) (0, tableIn b) (8, tableOf [])
+
+-- 0 and the image of a table, or 8 and the bytes as they were
+abbrev pub imageWritten : LeapTable → List ℕ → ℕ × List ℕ
+imageWritten t b = cond (sized b) (0, imageOf t) (8, b)
+
+-- building from bytes: 8 where they are no whole number of entries
+abbrev pub builtFrom : List ℕ → ℕ × LeapTable
+builtFrom b = cond (eqb (length b % 12) 0) (built (entriesIn b)) (8, tableOf [])
+
+-- the image of the table afterwards, or the refusal's number and the bytes as they were
+abbrev pub stored : List ℕ → ℕ × LeapTable → ℕ × List ℕ
+stored b x = cond (eqb (x .0) 0) (0, imageOf (x .1)) (x .0, b)
+
+-- extension of the table in an image: 8 where it is none
+abbrev pub imageExtended : List ℕ → Entry → ℕ × List ℕ
+imageExtended b e = cond (sized b) (stored b (extended (tableIn b) e)) (8, b)

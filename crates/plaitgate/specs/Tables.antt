@@ -1,0 +1,52 @@
+-- Tables that cross as images, and what is said of their entries.
+use mathlib.Core.Bool.{Bool, cond}
+use mathlib.Core.Option.{Option, none, some}
+use mathlib.Core.List.{List, []}
+use Prim.Native.Nat.{ℕ}
+use lib.IntN.{pos}
+use Rattle.refusals.specs.Outcome.{Outcome, answered, refused}
+use Rattle.tables.specs.Entries.{Entry, entry}
+use Rattle.tables.specs.Slots.{tableOf}
+use Rattle.tables.specs.declared.LeapTable.{LeapTable}
+use Rattle.images.specs.Image.{sized, tableIn, imageOf, builtFrom}
+
+-- a table that is not valid: it says that it has 65 entries
+abbrev pub noTable : LeapTable
+noTable = record { thresholds = tableOf [] .thresholds; offsets = tableOf [] .offsets; len = 65 }
+
+-- the table of an image; bytes of another size are no valid table
+abbrev pub tableOfImage : List ℕ → LeapTable
+tableOfImage b = cond (sized b) (tableIn b) noTable
+
+-- the number that a call gives, and the bytes that it leaves
+abbrev pub leaves : ℕ → List ℕ → ℕ × List ℕ
+leaves k b = (k, b)
+
+-- building into an image: the number, and the image of the table built; 8 and the bytes as they were where they are no image
+abbrev pub imageBuilt : List ℕ → List ℕ → ℕ × List ℕ
+imageBuilt entries b = cond (sized b) (builtFrom entries .0, imageOf (builtFrom entries .1)) (8, b)
+
+-- a yes or no as a number
+abbrev pub bit : Bool → ℕ
+bit b = cond b 1 0
+
+-- what may be there: 1 and it, or zeros
+pub record Found (A : Type 0) : Type 0 where
+  pub found : ℕ
+  pub value : A
+
+abbrev pub foundAs : {A : Type 0} → ℕ → A → Found A
+foundAs k a = record { found = k; value = a }
+
+abbrev pub foundEntry : Option Entry → Found Entry
+foundEntry (some e) = foundAs 1 e
+foundEntry none = foundAs 0 (entry 0 (pos 0))
+
+abbrev pub foundCount : Option ℕ → Found ℕ
+foundCount (some n) = foundAs 1 n
+foundCount none = foundAs 0 0
+
+-- an outcome with its answer changed
+abbrev pub changed : {A B : Type 0} → (A → B) → Outcome A → Outcome B
+changed f (answered a) = answered (f a)
+changed f (refused k) = refused k

@@ -1,0 +1,111 @@
+// Leap-second tables that a host holds as images of 776 bytes.
+ghost use mathlib.Core.Path.{_≡_};
+ghost use mathlib.Core.List.{[]};
+ghost use mathlib.Core.Option.{none};
+ghost use lib.Dec.{eqb};
+ghost use lib.IntN.{pos};
+ghost use lib.ListN.{length, getElem?};
+ghost use Rattle.refusals.specs.Outcome.{Gives, answered};
+ghost use Rattle.tables.specs.Entries.{entry, offsetAt, currentOffset, lastUpdate};
+ghost use Rattle.tables.specs.Slots.{entriesOf, ofValid, tableOf};
+ghost use Rattle.images.specs.Image.{imageWritten, imageExtended};
+ghost use Rattle.builtin.specs.Builtin.{builtin};
+ghost use Rattle.plaitgate.specs.Tables.{tableOfImage, leaves, imageBuilt, changed, bit, foundAs, foundEntry, foundCount};
+use crate::give;
+use crate::take::table_of_image;
+use scales::tai::Tai;
+use tables::LeapTable;
+use tables::Taken;
+
+#[no_mangle]
+pub extern "C" fn plaitgate_table_new(image: &mut [u8]) -> u32
+    ensures { λ r. ⌜ leaves r (now (image .exit)) ≡ imageWritten (tableOf []) (now (image .entry)) ⌝ }
+{
+    give::taken(images::write(LeapTable::new(), image))
+}
+
+#[no_mangle]
+pub extern "C" fn plaitgate_table_from_builtin(image: &mut [u8]) -> u32
+    ensures { λ r. ⌜ leaves r (now (image .exit)) ≡ imageWritten (tableOf builtin) (now (image .entry)) ⌝ }
+{
+    give::taken(images::write(builtin::from_builtin(), image))
+}
+
+// Entries of 12 bytes each; on a refusal of an entry the image is that of the empty table.
+#[no_mangle]
+pub extern "C" fn plaitgate_table_from_entries(entries: &[u8], image: &mut [u8]) -> u32
+    ensures { λ r. ⌜ leaves r (now (image .exit)) ≡ imageBuilt (now (entries .entry)) (now (image .entry)) ⌝ }
+{
+    let built = images::build(entries);
+    let answer = built.answer;
+    let table = built.table;
+    let written = images::write(table, image);
+    if let Taken::Refused(why) = written {
+        return why.number();
+    }
+    give::taken(answer)
+}
+
+#[no_mangle]
+pub extern "C" fn plaitgate_table_try_extend(
+    image: &mut [u8],
+    tai_nanos: u64,
+    tai_minus_utc: i32,
+) -> u32
+    ensures { λ r. ⌜ leaves r (now (image .exit)) ≡ imageExtended (now (image .entry)) (entry «tai_nanos» «tai_minus_utc») ⌝ }
+{
+    give::taken(images::extend(image, tai_nanos, tai_minus_utc))
+}
+
+#[no_mangle]
+pub extern "C" fn plaitgate_table_len(image: &[u8], len: &mut u64) -> u32
+    ensures { λ r. ⌜ Gives 0 (ofValid (tableOfImage (now (image .entry))) (answered (length (entriesOf (tableOfImage (now (image .entry))))))) r (now (len .exit)) ⌝ }
+{
+    give::length(table_of_image(image).len(), len)
+}
+
+#[no_mangle]
+pub extern "C" fn plaitgate_table_is_empty(image: &[u8], yes: &mut u8) -> u32
+    ensures { λ r. ⌜ Gives 0 (changed bit (ofValid (tableOfImage (now (image .entry))) (answered (eqb (length (entriesOf (tableOfImage (now (image .entry))))) 0)))) r (now (yes .exit)) ⌝ }
+{
+    give::emptiness(table_of_image(image).is_empty(), yes)
+}
+
+#[no_mangle]
+pub extern "C" fn plaitgate_table_entry_at(
+    image: &[u8],
+    place: u64,
+    found: &mut u8,
+    tai_nanos: &mut u64,
+    tai_minus_utc: &mut i32,
+) -> u32
+    ensures { λ r. ⌜ Gives (foundEntry none) (changed foundEntry (ofValid (tableOfImage (now (image .entry))) (answered (getElem? (entriesOf (tableOfImage (now (image .entry)))) place)))) r (foundAs (now (found .exit)) (entry (now («tai_nanos» .exit)) (now («tai_minus_utc» .exit)))) ⌝ }
+{
+    give::entry(
+        table_of_image(image).entry_at(place as usize),
+        found,
+        tai_nanos,
+        tai_minus_utc,
+    )
+}
+
+#[no_mangle]
+pub extern "C" fn plaitgate_table_last_update(image: &[u8], found: &mut u8, tai: &mut u64) -> u32
+    ensures { λ r. ⌜ Gives (foundCount none) (changed foundCount (ofValid (tableOfImage (now (image .entry))) (answered (lastUpdate (entriesOf (tableOfImage (now (image .entry)))))))) r (foundAs (now (found .exit)) (now (tai .exit))) ⌝ }
+{
+    give::update(table_of_image(image).last_update(), found, tai)
+}
+
+#[no_mangle]
+pub extern "C" fn plaitgate_table_current_tai_minus_utc(image: &[u8], offset: &mut i32) -> u32
+    ensures { λ r. ⌜ Gives (pos 0) (ofValid (tableOfImage (now (image .entry))) (answered (currentOffset (entriesOf (tableOfImage (now (image .entry))))))) r (now (offset .exit)) ⌝ }
+{
+    give::offset(table_of_image(image).current_tai_minus_utc(), offset)
+}
+
+#[no_mangle]
+pub extern "C" fn plaitgate_table_tai_minus_utc_at(image: &[u8], tai: u64, offset: &mut i32) -> u32
+    ensures { λ r. ⌜ Gives (pos 0) (ofValid (tableOfImage (now (image .entry))) (answered (offsetAt (entriesOf (tableOfImage (now (image .entry)))) tai))) r (now (offset .exit)) ⌝ }
+{
+    give::offset(table_of_image(image).tai_minus_utc_at(Tai(tai)), offset)
+}
