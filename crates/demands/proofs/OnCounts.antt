@@ -2,12 +2,13 @@
 use mathlib.Core.Path.{_≡_, sym, _∙_}
 use mathlib.Core.List.{List}
 use Prim.Native.Nat.{ℕ, _^_, _<_}
+use native.Mathlib.Omega.{arith}
 use Rattle.refusals.specs.Outcome.{Outcome}
 use Rattle.tables.specs.Entries.{Entry}
 use Rattle.demands.specs.TwoInstants.{Converts, Earliest, TwoInstants}
 
 converts-too : {f f′ : ℕ → Outcome ℕ} → ((g : ℕ) → g < 2 ^ 64 → f g ≡ f′ g) → {g u : ℕ} → Converts f g u → Converts f′ g u
-converts-too same {g} c = record { count = c .count; gives = sym (same g (c .count)) ∙ c .gives }
+converts-too same {g} c = record { count = c .count; gives = sym (same g (omega (arith, c .count))) ∙ c .gives }
 
 module _ (es : List Entry) {there there′ back back′ : ℕ → Outcome ℕ}
     (to : (g : ℕ) → g < 2 ^ 64 → there′ g ≡ there g) (from : (u : ℕ) → u < 2 ^ 64 → back′ u ≡ back u) where

@@ -1,3 +1,4 @@
 pub mod TwoInstants
 pub mod OfCalls
 pub mod Examples
+pub mod InsertedSecond
