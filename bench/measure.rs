@@ -1,5 +1,6 @@
 //! Two ways to the same answers, timed in turns.
 
+use gnss_time::CivilDateTime;
 use std::fmt::Debug;
 use std::hint::black_box;
 use std::time::{Duration, Instant};
@@ -7,6 +8,25 @@ use std::time::{Duration, Instant};
 const ROUNDS: usize = 25;
 /// The inputs are timed in parts, each so short that in some round nothing else comes between.
 const PART: usize = 10_000;
+
+/// An answer that a host goes on with.
+pub trait Used {
+    /// A number that every part of the answer goes into.
+    fn used(self) -> u64;
+}
+
+impl Used for u64 {
+    fn used(self) -> u64 {
+        self
+    }
+}
+
+impl Used for CivilDateTime {
+    fn used(self) -> u64 {
+        let date = self.year as u64 + u64::from(self.month) + u64::from(self.day);
+        date + u64::from(self.hour) + u64::from(self.minute) + u64::from(self.second) + u64::from(self.nanos)
+    }
+}
 
 pub struct Bench;
 
@@ -18,7 +38,7 @@ impl Bench {
     }
 
     /// Measures both on the same inputs, after seeing that they agree on each. Each side has its own errors.
-    pub fn compare<Input: Copy + Debug, Answer: PartialEq + Debug, Error, Refusal>(
+    pub fn compare<Input: Copy + Debug, Answer: Used + PartialEq + Debug, Error, Refusal>(
         &self,
         name: &str,
         order: &str,
@@ -47,7 +67,11 @@ impl Best {
         Best(inputs.chunks(PART).map(|_| Duration::MAX).collect())
     }
 
-    fn round<Input: Copy, Answer>(&mut self, inputs: &[Input], answer: impl Fn(Input) -> Answer) {
+    fn round<Input: Copy, Answer: Used, Error>(
+        &mut self,
+        inputs: &[Input],
+        answer: impl Fn(Input) -> Result<Answer, Error>,
+    ) {
         for (best, part) in self.0.iter_mut().zip(inputs.chunks(PART)) {
             *best = time(part, &answer).min(*best);
         }
@@ -58,12 +82,14 @@ impl Best {
     }
 }
 
-/// The time of one pass. The answers are kept from the optimiser, so that none is left out.
+/// The time of one pass, in which every part of each answer is read.
 #[inline(never)]
-fn time<Input: Copy, Answer>(inputs: &[Input], answer: impl Fn(Input) -> Answer) -> Duration {
+fn time<Input: Copy, Answer: Used, Error>(
+    inputs: &[Input],
+    answer: impl Fn(Input) -> Result<Answer, Error>,
+) -> Duration {
     let began = Instant::now();
-    for input in inputs {
-        black_box(answer(*input));
-    }
+    let sum = inputs.iter().fold(0, |sum: u64, input| sum.wrapping_add(answer(*input).map_or(0, Used::used)));
+    black_box(sum);
     began.elapsed()
 }

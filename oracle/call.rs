@@ -89,10 +89,12 @@ macro_rules! call {
             inputs: INPUTS,
             results: RESULTS,
             prototype: $crate::call::prototype(NAME, INPUTS, RESULTS),
-            panic_is: [$(Some($refusal),)? None][0],
-            trials: [$($trials as fn(&'static [$crate::call::Named]) -> $crate::inputs::Trials,)? $crate::inputs::numbers][0],
+            panic_is: None$(.or(Some($refusal)))?,
+            trials: $crate::call!(@trials $($trials)?),
             original,
             port,
         }
     }};
+    (@trials) => { $crate::inputs::numbers };
+    (@trials $trials:path) => { $trials };
 }

@@ -1,7 +1,7 @@
 -- Numbers to bytes and back, and bytes to numbers and back.
 use mathlib.Core.Path.{_≡_, refl, sym, ap, _∙_}
 use mathlib.Core.List.{List, [], _∷_, _++_, map, append-assoc}
-use Prim.Native.Nat.{ℕ, zero, suc, _+_, _-_, _*_, _/_, _%_, _^_, _≤_, _<_}
+use Prim.Native.Nat.{ℕ, zero, suc, _+_, _*_, _/_, _%_, _^_, _≤_, _<_}
 use native.Mathlib.Nat.{mul-zero, mul-suc, pow-suc, pow-le-pow-right}
 use native.Mathlib.Omega.{arith}
 use lib.Dec.{lit<}
@@ -9,7 +9,6 @@ use lib.ListN.{length, getD, take, drop, length-take, length-drop}
 use lib.Seq.{take-at, drop-at, take-add, getD-drop, length-take-le}
 use Rattle.images.specs.Image.{numberIn, bytesOf, numbersIn, bytesOfAll}
 use Rattle.images.specs.Promises.{Below}
-use Rattle.images.proofs.Bytes.{byte-above}
 use Rattle.images.proofs.Fields.{bytes-count}
 
 below-take : {m : ℕ} (k : ℕ) (ns : List ℕ) → Below m ns → Below m (take k ns)

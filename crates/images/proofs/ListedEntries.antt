@@ -7,19 +7,24 @@ use borrow.Author.Tests.{eq-eqb, ne-eqb}
 use lib.Dec.{eqb}
 use lib.ListN.{length, take, drop}
 use lib.Seq.{drop-drop}
+use lib.IntN.{ℤ}
 use mir.Syntax.{w32}
 use mir.Val.{toZ}
 use Rattle.tables.specs.Entries.{Entry, entry}
-use Rattle.tables.specs.Slots.{paired}
+use Rattle.tables.specs.Slots.{paired, built}
 use Rattle.images.specs.Image.{numberIn, numbersIn, entriesFrom}
 
-pub entries-paired : (n : ℕ) (b : List ℕ) → paired (numbersIn 8 12 n b) (map (toZ w32) (numbersIn 4 12 n (drop 8 b))) ≡ entriesFrom n b
+entries-paired : (n : ℕ) (b : List ℕ) → paired (numbersIn 8 12 n b) (map (toZ w32) (numbersIn 4 12 n (drop 8 b))) ≡ entriesFrom n b
 unfolding paired numbersIn entriesFrom
 entries-paired zero b = refl
 entries-paired (suc n) b =
     ap (λ (es : List Entry). entry (numberIn (take 8 b)) (toZ w32 (numberIn (take 4 (drop 8 b)))) ∷ es)
     (ap (λ (l : List ℕ). paired (numbersIn 8 12 n (drop 12 b)) (map (toZ w32) (numbersIn 4 12 n l))) (drop-drop 12 8 b ∙ sym (drop-drop 8 12 b))
     ∙ entries-paired n (drop 12 b))
+
+pub entries-built : (n : ℕ) (b ts : List ℕ) (zs : List ℤ) → ts ≡ numbersIn 8 12 n b → zs ≡ map (toZ w32) (numbersIn 4 12 n (drop 8 b))
+    → built (paired ts zs) ≡ built (entriesFrom n b)
+entries-built n b ts zs e f = (λ i. built (paired (e i) (f i))) ∙ ap built (entries-paired n b)
 
 pub entries-count : (n : ℕ) (b : List ℕ) → length (entriesFrom n b) ≡ n
 unfolding entriesFrom

@@ -30,18 +30,27 @@ unfoldable pub bytesOfAll : ℕ → List ℕ → List ℕ
 bytesOfAll k [] = []
 bytesOfAll k (n ∷ ns) = bytesOf k n ++ bytesOfAll k ns
 
--- an image: a length of 8 bytes, 64 thresholds of 8, 64 offsets of 4
+-- where the offsets of an image begin: behind a length of 8 bytes and 64 thresholds of 8
+abbrev pub offsetsAt : ℕ
+offsetsAt = 8 + 64 * 8
+
+-- and where they end, 64 of 4 bytes: 776
+abbrev pub imageBytes : ℕ
+imageBytes = offsetsAt + 64 * 4
+
+-- these bytes are an image
 abbrev pub sized : List ℕ → Bool
-sized b = eqb (length b) 776
+sized b = eqb (length b) imageBytes
 
 -- the table that an image holds; an offset is the number whose two's complement its 4 bytes are
 unfoldable pub tableIn : List ℕ → LeapTable
 tableIn b = record {
   thresholds = numbersIn 8 8 64 (drop 8 b);
-  offsets = map (toZ w32) (numbersIn 4 4 64 (drop 520 b));
+  offsets = map (toZ w32) (numbersIn 4 4 64 (drop offsetsAt b));
   len = numberIn (take 8 b);
 }
 
+-- the image of a table
 unfoldable pub imageOf : LeapTable → List ℕ
 imageOf t = bytesOf 8 (t .len) ++ bytesOfAll 8 (t .thresholds) ++ bytesOfAll 4 (map (ofZ w32) (t .offsets))
 
@@ -50,6 +59,7 @@ unfoldable pub entriesFrom : ℕ → List ℕ → List Entry
 entriesFrom zero bs = []
 entriesFrom (suc n) bs = entry (numberIn (take 8 bs)) (toZ w32 (numberIn (take 4 (drop 8 bs)))) ∷ entriesFrom n (drop 12 bs)
 
+-- all whole entries in a list of bytes
 abbrev pub entriesIn : List ℕ → List Entry
 entriesIn b = entriesFrom (length b / 12) b
 
@@ -69,6 +79,6 @@ builtFrom b = cond (eqb (length b % 12) 0) (built (entriesIn b)) (8, tableOf [])
 abbrev pub stored : List ℕ → ℕ × LeapTable → ℕ × List ℕ
 stored b x = cond (eqb (x .0) 0) (0, imageOf (x .1)) (x .0, b)
 
--- extension of the table in an image: 8 where it is none
+-- extension of the table in an image: 8 where the bytes are no image
 abbrev pub imageExtended : List ℕ → Entry → ℕ × List ℕ
 imageExtended b e = cond (sized b) (stored b (extended (tableIn b) e)) (8, b)

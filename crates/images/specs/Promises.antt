@@ -8,7 +8,7 @@ use mir.Syntax.{w32}
 use mir.Val.{SFits}
 use Rattle.tables.specs.Promises.{Sized}
 use Rattle.tables.specs.declared.LeapTable.{LeapTable}
-use Rattle.images.specs.Image.{tableIn, imageOf}
+use Rattle.images.specs.Image.{imageBytes, tableIn, imageOf}
 
 -- each number of a list is below a bound
 abbrev pub Below : ℕ → List ℕ → Type 0
@@ -24,5 +24,5 @@ pub record Typed (t : LeapTable) : Type 0 where
 -- nothing is lost on the way to bytes and back, nor on the way from 776 bytes to a table and back
 pub record NothingLost : Type 0 where
   pub table : (t : LeapTable) → Typed t → tableIn (imageOf t) ≡ t
-  pub image : (b : List ℕ) → Below 256 b → length b ≡ 776 → imageOf (tableIn b) ≡ b
-  pub size : (t : LeapTable) → Sized t → length (imageOf t) ≡ 776
+  pub image : (b : List ℕ) → Below 256 b → length b ≡ imageBytes → imageOf (tableIn b) ≡ b
+  pub size : (t : LeapTable) → Sized t → length (imageOf t) ≡ imageBytes

@@ -9,27 +9,31 @@ ghost use mir.Val.{toZ, ofZ};
 ghost use Rattle.refusals.specs.Number.{numberOf};
 ghost use Rattle.tables.specs.Answers.{extensionIn};
 ghost use Rattle.tables.specs.Slots.{tableOf};
-ghost use Rattle.images.specs.Image.{numberIn, bytesOf, numbersIn, bytesOfAll, tableIn, imageOf};
+ghost use Rattle.images.specs.Image.{numberIn, bytesOf, numbersIn, bytesOfAll, imageBytes, tableIn, imageOf};
 use refusals::Refusal;
 use tables::Extension;
 use tables::LeapTable;
 use tables::Taken;
 
+// A table has 64 slots.
+pub const SLOTS: usize = 64;
+
+const LENGTH_BYTES: usize = 8;
+
 pub const THRESHOLD_BYTES: usize = 8;
 
 const OFFSET_BYTES: usize = 4;
 
-// A threshold and an offset.
-pub const ENTRY_BYTES: usize = 12;
+// An entry of a list: 12.
+pub const ENTRY_BYTES: usize = THRESHOLD_BYTES + OFFSET_BYTES;
 
-// In an image the thresholds follow the length of 8 bytes, and the offsets follow 64 thresholds: 8 + 64 * 8.
-const THRESHOLDS_AT: usize = 8;
+// Where the offsets of an image begin: 520.
+const OFFSETS_AT: usize = LENGTH_BYTES + SLOTS * THRESHOLD_BYTES;
 
-const OFFSETS_AT: usize = 520;
+// The bytes of an image: 776.
+pub const IMAGE_BYTES: usize = OFFSETS_AT + SLOTS * OFFSET_BYTES;
 
-// 8 + 64 * 8 + 64 * 4
-pub const IMAGE_BYTES: usize = 776;
-
+// The largest number whose two's complement is itself.
 const LARGEST_OFFSET: u32 = 2147483647;
 
 // A refusal, and the empty table beside it.
@@ -134,12 +138,12 @@ pub fn offsets_at(bytes: &[u8], start: usize, stride: usize, n: usize) -> [i32; 
 
 // The table in an image.
 pub fn table_in(image: &[u8]) -> LeapTable
-    requires { ⌜ length (now image) ≡ 776 ⌝ }
+    requires { ⌜ length (now image) ≡ imageBytes ⌝ }
     ensures { λ r. ⌜ r ≡ tableIn (now (image .entry)) ⌝ }
 {
-    let thresholds = thresholds_at(image, THRESHOLDS_AT, THRESHOLD_BYTES, 64);
-    let offsets = offsets_at(image, OFFSETS_AT, OFFSET_BYTES, 64);
-    let len = number_at(image, 0, THRESHOLDS_AT) as usize;
+    let thresholds = thresholds_at(image, LENGTH_BYTES, THRESHOLD_BYTES, SLOTS);
+    let offsets = offsets_at(image, OFFSETS_AT, OFFSET_BYTES, SLOTS);
+    let len = number_at(image, 0, LENGTH_BYTES) as usize;
     LeapTable {
         thresholds,
         offsets,
@@ -179,10 +183,10 @@ pub fn put_offsets(out: &mut [u8], start: usize, offsets: &[i32])
 
 // The image of a table over what was there.
 pub fn put_table(image: &mut [u8], table: LeapTable)
-    requires { ⌜ length (now image) ≡ 776 ⌝ }
+    requires { ⌜ length (now image) ≡ imageBytes ⌝ }
     ensures { λ _. ⌜ now (image .exit) ≡ imageOf table ⌝ }
 {
-    put_number(image, 0, THRESHOLDS_AT, table.len as u64);
-    put_thresholds(image, THRESHOLDS_AT, &table.thresholds);
+    put_number(image, 0, LENGTH_BYTES, table.len as u64);
+    put_thresholds(image, LENGTH_BYTES, &table.thresholds);
     put_offsets(image, OFFSETS_AT, &table.offsets);
 }

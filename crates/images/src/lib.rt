@@ -46,7 +46,7 @@ pub fn build(entries: &[u8]) -> Extension
         return inner::no_table(Refusal::BadTable);
     }
     let n = entries.len() / inner::ENTRY_BYTES;
-    if 64 < n {
+    if inner::SLOTS < n {
         return inner::no_table(Refusal::BufferFull);
     }
     let thresholds = inner::thresholds_at(entries, 0, inner::ENTRY_BYTES, n);

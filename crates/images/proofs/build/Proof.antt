@@ -1,14 +1,13 @@
--- `build` meets its contract.
-use mathlib.Core.Path.{_≡_, sym, ap, _∙_}
-use Prim.Native.Nat.{ℕ, _/_}
+-- `build` reads thresholds and offsets apart, and they are the entries listed.
+use mathlib.Core.Path.{_≡_, sym, _∙_}
+use Prim.Native.Nat.{_/_}
 use native.Mathlib.Omega.{arith}
 use denote.Ref.{now}
-use lib.ListN.{length, take}
+use lib.ListN.{length}
 use lib.Seq.{length-take-le}
-use Rattle.tables.specs.Slots.{paired, built}
 use Rattle.tables.proofs.Growing.{too-many}
 use Rattle.images.specs.Image.{entriesIn}
-use Rattle.images.proofs.ListedEntries.{entries-paired, entries-count, whole-entries, not-whole}
+use Rattle.images.proofs.ListedEntries.{entries-built, entries-count, whole-entries, not-whole}
 use borrow.Author.Needs.{needs}
 use Rattle.images.proofs.build.Statement.{statement}
 use Rattle.images.proofs.build.Tie as tie
@@ -58,8 +57,8 @@ returns-3 c =
     let thresholds = offsets .before in
     let b = now (thresholds .before .before .before .before .args .entries) in
     c .from-lists .ensures
-    ∙ (λ i. built (paired (thresholds .thresholds-at .ensures i) (offsets .offsets-at .ensures i)))
-    ∙ ap built (entries-paired (length b / 12) b) ∙ whole-entries b _ _ (thresholds .before .before .if1 .left)
+    ∙ entries-built (length b / 12) b _ _ (thresholds .thresholds-at .ensures) (offsets .offsets-at .ensures)
+    ∙ whole-entries b _ _ (thresholds .before .before .if1 .left)
 
 pub build-spec : {M : Type 1} → statement M
 build-spec =

@@ -1,15 +1,15 @@
--- `extend` meets its contract.
-use mathlib.Core.Path.{_≡_, sym, ap, _∙_}
+-- `extend` stores the table of an accepted extension, and nothing on a refusal.
+use mathlib.Core.Path.{_≡_, ap, _∙_}
 use mathlib.Core.List.{List}
 use Prim.Native.Nat.{ℕ}
 use denote.Ref.{now}
-use Rattle.images.proofs.Whole.{of-size, not-of-size, refusal-stored, table-stored}
 use mir.Facts.{toZ-ofZ}
 use Rattle.tables.specs.Answers.{takenIn, extensionIn}
 use Rattle.tables.specs.Entries.{entry}
 use Rattle.tables.specs.Slots.{extended}
 use Rattle.tables.proofs.RefusalNumbers.{number-not-zero}
 use Rattle.images.specs.Image.{tableIn, stored}
+use Rattle.images.proofs.Whole.{of-size, not-of-size, refusal-stored, table-stored}
 use borrow.Author.Needs.{needs}
 use Rattle.images.proofs.extend.Statement.{statement}
 use Rattle.images.proofs.extend.Tie as tie

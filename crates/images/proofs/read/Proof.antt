@@ -1,5 +1,5 @@
--- `read` meets its contract.
-use mathlib.Core.Path.{_≡_, ap, _∙_}
+-- `read` gives the table in an image of 776 bytes.
+use mathlib.Core.Path.{ap, _∙_}
 use denote.Ref.{now}
 use Rattle.tables.specs.declared.LeapTable.{LeapTable}
 use Rattle.images.proofs.Whole.{of-size, not-of-size}

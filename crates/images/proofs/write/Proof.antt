@@ -1,5 +1,5 @@
--- `write` meets its contract.
-use mathlib.Core.Path.{_≡_, ap, _∙_}
+-- `write` puts the image of a table over 776 bytes.
+use mathlib.Core.Path.{ap, _∙_}
 use mathlib.Core.List.{List}
 use Prim.Native.Nat.{ℕ}
 use denote.Ref.{now}

@@ -1,9 +1,7 @@
 -- `inner::complement` keeps the bits, by the offset's sign.
 use mathlib.Core.Path.{_≡_, sym, ap, subst, _∙_}
-use mathlib.Core.Bool.{true, false}
 use Prim.Native.Nat.{_-_}
-use lib.IntN.{ℤ, pos, natAbs}
-use lib.Signed.{leZ}
+use lib.IntN.{natAbs}
 use mir.Syntax.{w32}
 use mir.Val.{toZ, ofZ}
 use mir.Facts.{toZ-ofZ}

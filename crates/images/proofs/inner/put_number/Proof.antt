@@ -1,10 +1,9 @@
 -- `inner::put_number` stores the lowest byte of what is left at each turn.
 use mathlib.Core.Path.{_≡_, refl, sym, ap, _∙_}
-use Prim.Native.Nat.{ℕ, _+_, _-_, _%_, _≤_}
+use Prim.Native.Nat.{ℕ, _+_, _-_, _≤_}
 use native.Mathlib.Nat.{add-zero, sub-zero}
 use native.Mathlib.Omega.{arith}
 use borrow.Author.Needs.{needs}
-use denote.Ref.{now}
 use lib.ListN.{length, length-set}
 use lib.Seq.{sets}
 use Rattle.images.specs.Image.{bytesOf}

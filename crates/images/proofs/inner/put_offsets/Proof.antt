@@ -1,7 +1,7 @@
 -- `inner::put_offsets` stores the complement of one offset at each turn.
 use mathlib.Core.Path.{_≡_, refl, sym, ap, _∙_}
-use mathlib.Core.List.{List, map}
-use Prim.Native.Nat.{ℕ, _+_, _-_, _*_, _≤_}
+use mathlib.Core.List.{map}
+use Prim.Native.Nat.{_+_, _-_, _*_, _≤_}
 use native.Mathlib.Nat.{add-zero}
 use native.Mathlib.Omega.{arith}
 use borrow.Author.Needs.{needs}
@@ -12,7 +12,7 @@ use lib.IntN.{pos}
 use mir.Syntax.{w32}
 use mir.Val.{SFits, ofZ}
 use mir.Facts.{toZ-ofZ}
-use Rattle.images.specs.Image.{bytesOf, bytesOfAll}
+use Rattle.images.specs.Image.{bytesOfAll}
 use Rattle.images.proofs.Fields.{field-written, all-fields-written}
 use Rattle.images.proofs.inner.put_offsets.Statement.{statement}
 use Rattle.images.proofs.inner.put_offsets.Tie as tie

@@ -1,5 +1,5 @@
 -- `inner::put_table` writes the three parts of an image one after the other.
-use mathlib.Core.Path.{_≡_, ap, _∙_}
+use mathlib.Core.Path.{ap, _∙_}
 use mathlib.Core.List.{List, map}
 use Prim.Native.Nat.{ℕ}
 use lib.Seq.{sets}

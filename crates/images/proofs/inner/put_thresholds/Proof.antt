@@ -1,13 +1,13 @@
 -- `inner::put_thresholds` stores one threshold at each turn.
-use mathlib.Core.Path.{_≡_, refl, sym, ap, _∙_}
-use Prim.Native.Nat.{ℕ, _+_, _-_, _*_, _≤_}
+use mathlib.Core.Path.{_≡_, refl, sym, _∙_}
+use Prim.Native.Nat.{_+_, _-_, _*_, _≤_}
 use native.Mathlib.Nat.{add-zero}
 use native.Mathlib.Omega.{arith}
 use borrow.Author.Needs.{needs}
 use denote.Ref.{now}
 use lib.ListN.{length, drop}
 use lib.Seq.{sets}
-use Rattle.images.specs.Image.{bytesOf, bytesOfAll}
+use Rattle.images.specs.Image.{bytesOfAll}
 use Rattle.images.proofs.Fields.{field-written, all-fields-written}
 use Rattle.images.proofs.inner.put_thresholds.Statement.{statement}
 use Rattle.images.proofs.inner.put_thresholds.Tie as tie

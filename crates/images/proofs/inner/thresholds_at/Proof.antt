@@ -1,12 +1,12 @@
 -- `inner::thresholds_at` fills the slots from the front, one number at a turn.
-use mathlib.Core.Path.{_≡_, refl, sym, ap, _∙_}
-use mathlib.Core.List.{List, map, map-id}
-use Prim.Native.Nat.{ℕ, _+_, _-_, _*_, _≤_, _<_}
+use mathlib.Core.Path.{_≡_, refl, _∙_}
+use mathlib.Core.List.{map, map-id}
+use Prim.Native.Nat.{ℕ, _+_, _-_, _*_, _≤_}
 use native.Mathlib.Omega.{arith}
 use borrow.Author.Needs.{needs}
 use denote.Ref.{now}
 use lib.ListN.{length, take, drop, length-set}
-use Rattle.images.specs.Image.{numberIn, numbersIn}
+use Rattle.images.specs.Image.{numbersIn}
 use Rattle.images.proofs.Fields.{none-kept, field-kept}
 use Rattle.images.proofs.inner.thresholds_at.Statement.{statement}
 use Rattle.images.proofs.inner.thresholds_at.Tie as tie

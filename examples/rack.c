@@ -1,0 +1,58 @@
+/*
+ * A rack's stamp, in C: a GPS week and second become a count, the count becomes UTC by the built-in table and by one
+ * that the rack keeps itself, and the UTC count becomes a civil date and time. The second that was inserted at the
+ * end of 2016 shows that one UTC count can name two instants.
+ *
+ * ./test compiles it with include/plaitgate.h, links the library and compares what it writes with rack.out.
+ */
+#include <inttypes.h>
+#include <stdio.h>
+#include <string.h>
+
+#include "plaitgate.h"
+
+static void stamp(uint64_t gps)
+{
+    uint64_t utc, back;
+    int32_t year;
+    uint8_t month, day, hour, minute, second;
+    uint32_t nanos;
+    uint32_t why = plaitgate_builtin_gps_to_utc(gps, &utc);
+
+    if (why != PLAITGATE_ANSWERED) {
+        printf("GPS %" PRIu64 ": refused %" PRIu32 "\n", gps, why);
+        return;
+    }
+    plaitgate_civil_from_utc_nanos(utc, &year, &month, &day, &hour, &minute, &second, &nanos);
+    plaitgate_builtin_utc_to_gps(utc, &back);
+    printf("GPS %" PRIu64 " is %04" PRId32 "-%02u-%02uT%02u:%02u:%02u.%09" PRIu32 "Z, first of GPS %" PRIu64 "\n",
+           gps, year, month, day, hour, minute, second, nanos, back);
+}
+
+int main(void)
+{
+    uint8_t table[PLAITGATE_IMAGE_BYTES], before[PLAITGATE_IMAGE_BYTES];
+    uint64_t gps, length;
+    int32_t offset;
+
+    /* week 1930, the last seconds of 2016 and the first of 2017 */
+    plaitgate_gps_from_week_tow(1930, 16, 0, &gps);
+    stamp(gps);
+    stamp(gps + UINT64_C(1000000000));
+    stamp(gps + UINT64_C(2000000000));
+    stamp(UINT64_MAX);
+
+    /* a table of the rack's own: the built-in one, extended by an entry that is refused and by one that is taken */
+    plaitgate_table_from_builtin(table, sizeof table);
+    memcpy(before, table, sizeof table);
+    printf("an offset of 39 after 37: refused %" PRIu32 "\n",
+           plaitgate_table_try_extend(table, sizeof table, UINT64_C(2000000000000000000), 39));
+    printf("the table is %s\n", memcmp(before, table, sizeof table) == 0 ? "as it was" : "changed");
+    plaitgate_table_try_extend(table, sizeof table, UINT64_C(2000000000000000000), 38);
+    plaitgate_table_len(table, sizeof table, &length);
+    plaitgate_table_tai_minus_utc_at(table, sizeof table, UINT64_C(2000000000000000000), &offset);
+    printf("%" PRIu64 " entries, TAI minus UTC %" PRId32 " s from 2000000000000000000 on\n", length, offset);
+    table[0] = 65;
+    printf("a length of 65: refused %" PRIu32 "\n", plaitgate_table_len(table, sizeof table, &length));
+    return 0;
+}
