@@ -104,19 +104,12 @@ macro_rules! call {
             inputs: INPUTS,
             results: RESULTS,
             prototype: $crate::call::prototype(NAME, INPUTS, RESULTS),
-<<<<<<< HEAD
-            panic_is: None$(.or(Some($refusal)))?,
-            trials: $crate::call!(@trials $($trials)?),
-=======
             panic_is: [$(Some($refusal),)? None][0],
             trials: TRIALS,
             recorded: Some(TRIALS),
->>>>>>> f2b796349695cf2d3a3b18b0071341e4997ff44e
             original,
             kept: None,
             port,
         }
     }};
-    (@trials) => { $crate::inputs::numbers };
-    (@trials $trials:path) => { $trials };
 }
