@@ -20,3 +20,8 @@ set-before (v ∷ vs) l p q d h =
   where
     apart : {p q : ℕ} → p < q → q ≡ p → ⊥
     apart h e = omega arith
+
+-- a run and then another, from where the first ends
+pub joined : {x y : List ℕ} (out : List ℕ) (at p : ℕ) (vs ws : List ℕ) → x ≡ sets out at vs → p ≡ at + length vs → y ≡ sets x p ws → y ≡ sets out at (vs ++ ws)
+joined out at p vs ws e place f =
+    f ∙ ap (λ (l : List ℕ). sets l p ws) e ∙ ap (λ (k : ℕ). sets (sets out at vs) k ws) place ∙ sets-sets vs ws out at
