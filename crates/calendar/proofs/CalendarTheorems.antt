@@ -1,6 +1,6 @@
 -- For real dates the formula is the calendar, in every year, before year 0 too: the date of the day that it gives is the date, and the day that it gives to the date of a day is the day.
 use mathlib.Core.Path.{_≡_, refl, ap, sym, _∙_}
-use Prim.Native.Nat.{ℕ, zero, suc}
+use Prim.Native.Nat.{zero, suc}
 use lib.IntN.{ℤ, pos, negsuc, sucℤ, predℤ}
 use Rattle.calendar.specs.Calendar.{Date, Real, daysIn, next, prev, unixEpoch, dateOf}
 use Rattle.calendar.specs.Formula.{dayOf, era, yoe, doy, doe, formula}
@@ -42,7 +42,7 @@ day-of-date (negsuc zero) = prev-day unixEpoch epoch-real ∙ ap predℤ epoch-d
 day-of-date (negsuc (suc n)) = prev-day (dateOf (negsuc n)) (real-date (negsuc n)) ∙ ap predℤ (day-of-date (negsuc n))
 
 -- a real date is reached from 1970-01-01 by as many steps as its day says
-reached : (z : ℤ) (d : Date) → Real d → dayOf d ≡ z → dateOf z ≡ d
+pub reached : (z : ℤ) (d : Date) → Real d → dayOf d ≡ z → dateOf z ≡ d
 unfolding dateOf
 reached (pos zero) d r h = sym (day-zero d r h)
 reached (pos (suc n)) d r h =

@@ -1,18 +1,18 @@
 -- A year and a month that hold a day give the day's date: it is real, and its Unix day is the day.
-use Prim.Native.Nat.{ℕ, zero, suc, _+_, _-_, _*_, _/_, _≤_, _<_}
+use Prim.Native.Nat.{ℕ, zero, suc, _+_, _-_, _≤_, _<_}
 use mathlib.Core.Path.{_≡_, refl, ap, sym, _∙_, subst}
-use mathlib.Core.Bool.{Bool, true, false, cond}
+use mathlib.Core.Bool.{cond}
 use native.Mathlib.Omega.{arith}
 use native.Mathlib.Decide.{ℕ-discrete}
 use borrow.Author.Tests.{lt-ltb, le-ltb}
-use lib.IntN.{ℤ, pos, subℕ}
+use lib.IntN.{pos, subℕ}
 use Rattle.counts.proofs.Difference.{not-below}
-use Rattle.calendar.specs.Calendar.{Date, on, Real, leap, daysIn, dateOf}
+use Rattle.calendar.specs.Calendar.{on, Real, leap, daysIn, dateOf}
 use Rattle.calendar.specs.Formula.{dayOf, fromMarch, monthStart}
-use Rattle.calendar.specs.March.{daysInYears, InYear, InMonth}
+use Rattle.calendar.specs.March.{daysInYears, marchOf, InYear, InMonth}
 use Rattle.calendar.proofs.MarchYears.{year-length, at-most-366}
 use Rattle.calendar.proofs.Months.{start, month-length, february}
-use Rattle.calendar.proofs.Eras.{marchOf, dayNumber, counted}
+use Rattle.calendar.proofs.Eras.{counted}
 use Rattle.calendar.proofs.CalendarTheorems.{date-of-day}
 
 pub within-366 : (z y k : ℕ) → InYear z y k → k < 366
@@ -41,7 +41,8 @@ module _ (z n m k : ℕ) (low : 1 ≤ n) (from : 1 ≤ m) (to : m ≤ 12) (in-ye
   in-february : m ≡ 2 → k < cond (leap (pos n)) 366 365
   in-february e =
       let y = subst (λ (j : ℕ). InYear z (marchOf n j) k) e in-year in
-      sums (daysInYears (n - 1)) _ (cond (leap (pos n)) 366 365) (year-ending n low) (y .begun) (subst (λ (j : ℕ). z < daysInYears j) (omega arith) (y .ahead))
+      sums (daysInYears (n - 1)) _ (cond (leap (pos n)) 366 365) (year-ending n low) (y .begun)
+      (subst (λ (j : ℕ). z < daysInYears j) (omega arith) (y .ahead))
     where
       sums : (a b c : ℕ) → b ≡ a + c → a + k ≡ z → z < b → k < c
       sums a b c e f g = omega arith
@@ -80,7 +81,8 @@ module _ (z u y mp k s : ℕ) (e : u + 719468 ≡ z) (in-year : InYear z y k) (i
   pub early : mp < 10 → on (pos y) (mp + 3) (k - s + 1) ≡ dateOf (pos u)
   early h =
       (λ i. on (pos y) (mp + 3) (k - (at ∙ ap monthStart (sym month)) i + 1))
-      ∙ dated z y (mp + 3) k some-year (omega arith) (omega arith) (subst (λ (n : ℕ). InYear z n k) (sym year) in-year) (subst (InMonth k) (sym month) in-month) u e
+      ∙ dated z y (mp + 3) k some-year (omega arith) (omega arith) (subst (λ (n : ℕ). InYear z n k) (sym year) in-year)
+      (subst (InMonth k) (sym month) in-month) u e
     where
       month : fromMarch (mp + 3) ≡ mp
       month = rw (lt-ltb 2 (mp + 3) (omega arith)) (omega arith)
@@ -92,7 +94,8 @@ module _ (z u y mp k s : ℕ) (e : u + 719468 ≡ z) (in-year : InYear z y k) (i
   pub late : 10 ≤ mp → on (pos (y + 1)) (mp - 9) (k - s + 1) ≡ dateOf (pos u)
   late h =
       (λ i. on (pos (y + 1)) (mp - 9) (k - (at ∙ ap monthStart (sym month)) i + 1))
-      ∙ dated z (y + 1) (mp - 9) k (omega arith) (omega arith) (omega (arith, in-month .few)) (subst (λ (n : ℕ). InYear z n k) (sym year) in-year) (subst (InMonth k) (sym month) in-month) u e
+      ∙ dated z (y + 1) (mp - 9) k (omega arith) (omega arith) (omega (arith, in-month .few))
+      (subst (λ (n : ℕ). InYear z n k) (sym year) in-year) (subst (InMonth k) (sym month) in-month) u e
     where
       month : fromMarch (mp - 9) ≡ mp
       month = rw (le-ltb 2 (mp - 9) (omega (arith, in-month .few))) (omega arith)

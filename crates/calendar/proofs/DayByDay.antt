@@ -1,11 +1,11 @@
 -- The date after and the date before undo each other at real dates, and lead to real dates.
 use mathlib.Core.Path.{_≡_, refl, ap, sym, _∙_}
 use mathlib.Core.Bool.{Bool}
-use Prim.Native.Nat.{ℕ, _+_, _-_, _≤_, _<_}
+use Prim.Native.Nat.{ℕ, _+_, _-_, _<_}
 use native.Mathlib.Omega.{arith}
 use native.Mathlib.Decide.{decLt}
 use borrow.Author.Tests.{lt-ltb, le-ltb}
-use lib.IntN.{ℤ, pos, sucℤ, predℤ, suc-pred, pred-suc}
+use lib.IntN.{ℤ, sucℤ, predℤ, suc-pred, pred-suc}
 use Rattle.calendar.specs.Calendar.{Date, on, Real, leap, daysIn, monthLength, next, prev}
 use Rattle.calendar.proofs.Months.{has-a-day}
 
@@ -70,7 +70,13 @@ module _ (d : Date) (r : Real d) where
   prev-real =
       before Real y m (d .day) r
       (λ h. record { month-from = r .month-from; month-to = r .month-to; day-from = omega arith; day-to = omega (arith, r .day-to) })
-      (λ h k. record { month-from = omega arith; month-to = omega (arith, r .month-to); day-from = has-a-day (leap y) (m - 1) (omega (arith, r .month-to)); day-to = omega arith })
+      (λ h k. record {
+        month-from = omega arith;
+        month-to = omega (arith, r .month-to);
+        day-from = has-a-day (leap y) (m - 1)
+            (omega (arith, r .month-to));
+        day-to = omega arith;
+      })
       (λ h k. record { month-from = omega arith; month-to = omega arith; day-from = omega arith; day-to = omega (arith, december (leap (predℤ y))) })
 
   pub next-prev : next (prev d) ≡ d
@@ -78,7 +84,11 @@ module _ (d : Date) (r : Real d) where
   next-prev =
       before (λ e. next e ≡ d) y m (d .day) r
       (λ h. rw (lt-ltb (d .day - 1) (monthLength y m) (omega (arith, r .day-to))) (ap (on y m) (omega arith)))
-      (λ h k. rw (le-ltb (monthLength y (m - 1)) (monthLength y (m - 1)) (omega arith), lt-ltb (m - 1) 12 (omega (arith, r .month-to))) (λ i. on y (back k i) (sym h i)))
+      (λ h k. rw (
+        le-ltb (monthLength y (m - 1)) (monthLength y (m - 1)) (omega arith),
+        lt-ltb (m - 1) 12
+            (omega (arith, r .month-to)),
+      ) (λ i. on y (back k i) (sym h i)))
       (λ h k. rw (le-ltb 31 (monthLength (predℤ y) 12) (omega (arith, december (leap (predℤ y))))) (λ i. on (suc-pred y i) (sym k i) (sym h i)))
     where
       back : 1 < m → m - 1 + 1 ≡ m

@@ -1,20 +1,20 @@
 -- From one date of the calendar to the next the formula's day goes up by one, and only 1970-01-01 is day 0.
 use mathlib.Core.Path.{_≡_, refl, ap, sym, _∙_, subst}
 use mathlib.Core.Logic.{_≢_}
-use mathlib.Core.Bool.{Bool, true, false, cond}
-use Prim.Native.Nat.{ℕ, zero, suc, _+_, _-_, _*_, _/_, _≤_, _<_}
+use mathlib.Core.Bool.{Bool, cond}
+use Prim.Native.Nat.{ℕ, suc, _+_, _-_, _*_, _≤_, _<_}
 use native.Mathlib.Omega.{arith}
 use native.Mathlib.Decide.{ℕ-discrete, decLt}
 use borrow.Author.Tests.{lt-ltb, le-ltb}
 use lib.IntN.{ℤ, pos, sucℤ, predℤ, subℕ, pred-suc}
 use Rattle.counts.proofs.Difference.{not-below}
-use Rattle.calendar.specs.Calendar.{Date, on, Real, leap, daysIn, monthLength, next, prev, unixEpoch}
+use Rattle.calendar.specs.Calendar.{Date, on, Real, leap, daysIn, next, prev, unixEpoch}
 use Rattle.calendar.specs.Formula.{dayOf, formula, fromMarch, monthStart}
-use Rattle.calendar.specs.March.{daysInYears}
+use Rattle.calendar.specs.March.{daysInYears, marchOf, epochNumber}
 use Rattle.calendar.proofs.Sums.{one-more, is-natural}
 use Rattle.calendar.proofs.MarchYears.{year-length}
 use Rattle.calendar.proofs.Months.{start, month-length, february, in-year, january}
-use Rattle.calendar.proofs.Eras.{Above, above, same-leap, marchOf, dayNumber, counted}
+use Rattle.calendar.proofs.Eras.{Above, above, same-leap, dayNumber, counted}
 use Rattle.calendar.proofs.DayByDay.{after, prev-real, next-prev}
 
 -- ---- in naturals
@@ -38,7 +38,8 @@ module _ (n : ℕ) (low : 1 ≤ n) where
       sums : (a b d k : ℕ) → 337 + d ≡ k → a ≡ b + k → a + (0 + 1) ≡ b + (337 + d) + 1
       sums a b d k e f = omega arith
 
-      by-leap : (l : Bool) → monthStart 11 + daysIn l 2 ≡ cond l 366 365 → daysInYears n ≡ daysInYears (n - 1) + cond l 366 365 → dayNumber n 3 1 ≡ dayNumber n 2 (daysIn l 2) + 1
+      by-leap : (l : Bool) → monthStart 11 + daysIn l 2 ≡ cond l 366 365 → daysInYears n ≡ daysInYears (n - 1) + cond l 366 365
+          → dayNumber n 3 1 ≡ dayNumber n 2 (daysIn l 2) + 1
       by-leap l e f = sums (daysInYears n) (daysInYears (n - 1)) (daysIn l 2) (cond l 366 365) e f
 
   month-on : (m : ℕ) → 1 ≤ m → m < 12 → dayNumber n (m + 1) 1 ≡ dayNumber n m (daysIn (leap (pos n)) m) + 1
@@ -74,8 +75,11 @@ pub next-day : (d : Date) → Real d → dayOf (next d) ≡ sucℤ (dayOf d)
 next-day d r =
     after (λ e. dayOf e ≡ sucℤ (dayOf d)) (d .year) (d .month) (d .day) r
     (λ h. goes (d .year) (a .years) (d .month) (d .day + 1) (a .is) (a .low) (day-on (a .years) (a .low) (d .month) (d .day)))
-    (λ h k. goes (d .year) (a .years) (d .month + 1) 1 (a .is) (a .low) (month-on (a .years) (a .low) (d .month) (r .month-from) k ∙ ap (λ (n : ℕ). dayNumber (a .years) (d .month) n + 1) (sym (h ∙ ap (λ (l : Bool). daysIn l (d .month)) leap-alike))))
-    (λ h k. goes (sucℤ (d .year)) (a .years + 1) 1 1 (ap sucℤ (a .is) ∙ one-more (a .years) (400 * a .eras)) (omega arith) (year-on (a .years) (a .low) ∙ (λ i. dayNumber (a .years) (sym k i) (sym h i) + 1)))
+    (λ h k. goes (d .year) (a .years) (d .month + 1) 1 (a .is) (a .low)
+    (month-on (a .years) (a .low) (d .month) (r .month-from) k ∙ ap (λ (n : ℕ). dayNumber (a .years) (d .month) n + 1)
+    (sym (h ∙ ap (λ (l : Bool). daysIn l (d .month)) leap-alike))))
+    (λ h k. goes (sucℤ (d .year)) (a .years + 1) 1 1 (ap sucℤ (a .is) ∙ one-more (a .years) (400 * a .eras)) (omega arith)
+    (year-on (a .years) (a .low) ∙ (λ i. dayNumber (a .years) (sym k i) (sym h i) + 1)))
   where
     a : Above (d .year)
     a = above (d .year)
@@ -83,10 +87,11 @@ next-day d r =
     leap-alike : leap (d .year) ≡ leap (pos (a .years))
     leap-alike = ap leap (a .is) ∙ same-leap (a .years) (a .eras)
 
-    goes : (y : ℤ) (n m k : ℕ) → y ≡ subℕ n (400 * a .eras) → 1 ≤ n → dayNumber n m k ≡ dayNumber (a .years) (d .month) (d .day) + 1 → formula y m k ≡ sucℤ (dayOf d)
+    goes : (y : ℤ) (n m k : ℕ) → y ≡ subℕ n (400 * a .eras) → 1 ≤ n
+        → dayNumber n m k ≡ dayNumber (a .years) (d .month) (d .day) + 1 → formula y m k ≡ sucℤ (dayOf d)
     goes y n m k is low e =
-        counted y m k n (a .eras) is low ∙ ap (λ (x : ℕ). subℕ x (146097 * a .eras + 719469)) e
-        ∙ sym (ap sucℤ (counted (d .year) (d .month) (d .day) (a .years) (a .eras) (a .is) (a .low)) ∙ one-more _ (146097 * a .eras + 719469))
+        counted y m k n (a .eras) is low ∙ ap (λ (x : ℕ). subℕ x (epochNumber (a .eras))) e
+        ∙ sym (ap sucℤ (counted (d .year) (d .month) (d .day) (a .years) (a .eras) (a .is) (a .low)) ∙ one-more _ (epochNumber (a .eras)))
 
 pub prev-day : (d : Date) → Real d → dayOf (prev d) ≡ predℤ (dayOf d)
 prev-day d r =
@@ -108,11 +113,11 @@ day-zero d r h = λ i. on (year i) (first i) (day i)
     march-year : ℕ
     march-year = marchOf (a .years) (d .month)
 
-    whole : daysInYears march-year + (start (d .month) + d .day) ≡ 146097 * a .eras + 719469
+    whole : daysInYears march-year + (start (d .month) + d .day) ≡ epochNumber (a .eras)
     whole =
-        is-natural (dayNumber (a .years) (d .month) (d .day)) (146097 * a .eras + 719469) 0
+        is-natural (dayNumber (a .years) (d .month) (d .day)) (epochNumber (a .eras)) 0
         (sym (counted (d .year) (d .month) (d .day) (a .years) (a .eras) (a .is) (a .low)) ∙ h)
-        ∙ no-more (146097 * a .eras + 719469)
+        ∙ no-more (epochNumber (a .eras))
       where
         no-more : (n : ℕ) → n + 0 ≡ n
         no-more n = omega arith

@@ -5,13 +5,13 @@ use mathlib.Core.Logic.{_⊎_, inl, inr}
 use mathlib.Core.Bool.{Bool, true, false, not, _&&_, _||_, cond}
 use native.Mathlib.Omega.{arith}
 use native.Mathlib.Decide.{decLt}
-use lib.Dec.{eqb, ltb, eqb·zero-suc, eqb·suc-zero}
-use lib.IntN.{ℤ, pos, negsuc, negℤ, predℤ, subℕ, natAbs, _+ℤ_, _-ℤ_, _*ℤ_}
+use lib.Dec.{eqb, ltb, eqb·suc-zero}
+use lib.IntN.{ℤ, pos, negsuc, negℤ, predℤ, subℕ, _+ℤ_, _-ℤ_, _*ℤ_}
 use lib.Signed.{quotZ}
 use Rattle.counts.proofs.Difference.{not-below, below, same, of-naturals, less}
-use Rattle.calendar.specs.Calendar.{divides, leap}
+use Rattle.calendar.specs.Calendar.{leap}
 use Rattle.calendar.specs.Formula.{fromMarch, marchYear, era, yoe, doy, doe, monthStart, formula}
-use Rattle.calendar.specs.March.{daysInYears, liftEras, Lifted}
+use Rattle.calendar.specs.March.{daysInYears, marchOf, epochNumber, liftEras, Lifted}
 use Rattle.calendar.proofs.Sums.{one-less, sum, difference, times}
 use Rattle.calendar.proofs.MarchYears.{of-era, hundreds-fewer}
 
@@ -79,9 +79,6 @@ era-back a = ap (λ (q : ℕ). negℤ (pos q)) up
     up = omega arith
 
 -- days in a natural year up to a day of a month
-abbrev pub marchOf : ℕ → ℕ → ℕ
-marchOf n m = cond (ltb 2 m) n (n - 1)
-
 abbrev pub dayNumber : ℕ → ℕ → ℕ → ℕ
 dayNumber n m d = daysInYears (marchOf n m) + (monthStart (fromMarch m) + d)
 
@@ -109,21 +106,25 @@ module _ (n e : ℕ) where
   of-era-year = n % 400 * 365 + n % 400 / 4
 
   -- the formula's last three lines, at a year that begins in March
-  from-march : (m d : ℕ) → era (subℕ n (400 * e)) *ℤ pos 146097 +ℤ doe (subℕ n (400 * e)) m d -ℤ pos 719468 ≡ subℕ (daysInYears n + (monthStart m + d)) (146097 * e + 719469)
+  from-march : (m d : ℕ)
+      → era (subℕ n (400 * e)) *ℤ pos 146097 +ℤ doe (subℕ n (400 * e)) m d -ℤ pos 719468 ≡ subℕ (daysInYears n + (monthStart m + d)) (epochNumber e)
   unfolding doe doy
   from-march m d =
-      (λ i. (ap (λ (z : ℤ). z *ℤ pos 146097) same-era ∙ times (n / 400) e 146097) i +ℤ (in-year i +ℤ of-naturals (monthStart m + d) 1 i) -ℤ pos 719468)
+      (λ i. (ap (λ (z : ℤ). z *ℤ pos 146097) same-era ∙ times (n / 400) e 146097) i +ℤ
+      (in-year i +ℤ of-naturals (monthStart m + d) 1 i) -ℤ pos 719468)
       ∙ ap (λ (z : ℤ). subℕ (n / 400 * 146097) (e * 146097) +ℤ z -ℤ pos 719468) (sum of-era-year (n % 400 / 100) (monthStart m + d) 1)
       ∙ ap (λ (z : ℤ). z -ℤ pos 719468) (sum (n / 400 * 146097) (e * 146097) (of-era-year + (monthStart m + d)) (n % 400 / 100 + 1))
       ∙ less (n / 400 * 146097 + (of-era-year + (monthStart m + d))) (e * 146097 + (n % 400 / 100 + 1)) 719468
-      ∙ same _ _ _ _ (sums (daysInYears n) (n / 400 * 146097) (n % 400 * 365 + n % 400 / 4) (n % 400 / 100) (monthStart m + d) (of-era n) (omega (arith, hundreds-fewer (n % 400))))
+      ∙ same _ _ _ _ (sums (daysInYears n) (n / 400 * 146097) (n % 400 * 365 + n % 400 / 4) (n % 400 / 100) (monthStart m + d)
+      (of-era n) (omega (arith, hundreds-fewer (n % 400))))
     where
-      in-year : yoe (subℕ n (400 * e)) *ℤ pos 365 +ℤ quotZ (yoe (subℕ n (400 * e))) (pos 4) -ℤ quotZ (yoe (subℕ n (400 * e))) (pos 100) ≡ subℕ of-era-year (n % 400 / 100)
+      in-year : yoe (subℕ n (400 * e)) *ℤ pos 365 +ℤ quotZ (yoe (subℕ n (400 * e))) (pos 4) -ℤ quotZ (yoe (subℕ n (400 * e)))
+          (pos 100) ≡ subℕ of-era-year (n % 400 / 100)
       in-year =
           ap (λ (z : ℤ). z *ℤ pos 365 +ℤ quotZ z (pos 4) -ℤ quotZ z (pos 100)) same-yoe
           ∙ of-naturals of-era-year (n % 400 / 100)
 
-      sums : (y q r c k : ℕ) → y ≡ q + (r - c) → c ≤ r → q + (r + k) + (146097 * e + 719469) ≡ y + k + (e * 146097 + (c + 1) + 719468)
+      sums : (y q r c k : ℕ) → y ≡ q + (r - c) → c ≤ r → q + (r + k) + (epochNumber e) ≡ y + k + (e * 146097 + (c + 1) + 719468)
       sums y q r c k h l = omega arith
 
   same-march : (b : Bool) → 1 ≤ n → cond b (subℕ n (400 * e)) (predℤ (subℕ n (400 * e))) ≡ subℕ (cond b n (n - 1)) (400 * e)
@@ -131,16 +132,18 @@ module _ (n e : ℕ) where
   same-march false low = one-less n (400 * e) low
 
 -- the Unix day of any fields, counted in naturals
-pub counted : (y : ℤ) (m d n e : ℕ) → y ≡ subℕ n (400 * e) → 1 ≤ n → formula y m d ≡ subℕ (dayNumber n m d) (146097 * e + 719469)
+pub counted : (y : ℤ) (m d n e : ℕ) → y ≡ subℕ n (400 * e) → 1 ≤ n → formula y m d ≡ subℕ (dayNumber n m d) (epochNumber e)
 unfolding formula
 counted y m d n e is low =
     ap (λ (z : ℤ). era z *ℤ pos 146097 +ℤ doe z (fromMarch m) d -ℤ pos 719468) (ap (λ (z : ℤ). marchYear z m) is ∙ same-march n e (ltb 2 m) low)
     ∙ from-march (marchOf n m) e (fromMarch m) d
 
 -- the same of a lifted year, from its parts
-pub of-lifted : (y : ℤ) (m d n before-year before-month : ℕ) → Lifted y n → before-year ≡ daysInYears (marchOf n m) → before-month ≡ monthStart (fromMarch m) → subℕ (before-year + before-month + d) (146097 * liftEras + 719469) ≡ formula y m d
+pub of-lifted : (y : ℤ) (m d n before-year before-month : ℕ) → Lifted y n → before-year ≡ daysInYears (marchOf n m)
+    → before-month ≡ monthStart (fromMarch m)
+    → subℕ (before-year + before-month + d) (epochNumber liftEras) ≡ formula y m d
 of-lifted y m d n b s l e f =
-    ap (λ (k : ℕ). subℕ k (146097 * liftEras + 719469)) ((λ i. e i + f i + d) ∙ sums (daysInYears (marchOf n m)) (monthStart (fromMarch m)))
+    ap (λ (k : ℕ). subℕ k (epochNumber liftEras)) ((λ i. e i + f i + d) ∙ sums (daysInYears (marchOf n m)) (monthStart (fromMarch m)))
     ∙ sym (counted y m d n liftEras (l .is) (l .low))
   where
     sums : (a c : ℕ) → a + c + d ≡ a + (c + d)

@@ -10,6 +10,7 @@ pub mod RealDates
 pub mod DayByDay
 pub mod DaySteps
 pub mod CalendarTheorems
+pub mod DateOrder
 pub mod DateOfDay
 pub mod EpochTheorems
 pub mod Tells

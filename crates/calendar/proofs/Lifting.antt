@@ -1,6 +1,6 @@
 -- Years of 32 bits counted from 5,368,710 eras before year 0, and the days between two dates counted in naturals.
 use mathlib.Core.Path.{_≡_, refl, sym, ap, subst, _∙_}
-use Prim.Native.Nat.{ℕ, suc, _+_, _-_, _*_, _/_, _<_, _^_}
+use Prim.Native.Nat.{ℕ, suc, _+_, _-_, _*_, _<_, _^_}
 use native.Mathlib.Omega.{arith}
 use mathlib.Core.Bool.{Bool, true, false, cond}
 use lib.Dec.{ltb}
@@ -11,11 +11,11 @@ use mir.Val.{SFits}
 use Rattle.counts.proofs.Difference.{not-below, below, same}
 use Rattle.counts.specs.Units.{daySeconds}
 use Rattle.calendar.specs.Calendar.{Date}
-use Rattle.calendar.specs.Formula.{fromMarch, monthStart, formula, dayOf}
-use Rattle.calendar.specs.March.{daysInYears, liftEras, Lifted}
+use Rattle.calendar.specs.Formula.{monthStart, dayOf}
+use Rattle.calendar.specs.March.{daysInYears, epochNumber, liftEras, Lifted}
 use Rattle.calendar.specs.Dates.{daysBetween}
 use Rattle.calendar.proofs.Sums.{difference, times, magnitude}
-use Rattle.calendar.proofs.Eras.{marchOf, dayNumber, counted}
+use Rattle.calendar.proofs.Eras.{dayNumber, counted}
 
 pub record Raised (z : ℤ) : Type 0 where
   pub by : ℕ
@@ -27,7 +27,11 @@ raised (pos a) h =
     record {
       by = a + 2147484000;
       sum = refl;
-      lifted = record { is = sym (not-below (a + 2147484000) 2147484000 (omega arith) ∙ ap pos (omega arith)); low = omega arith; high = omega arith };
+      lifted = record {
+        is = sym (not-below (a + 2147484000) 2147484000 (omega arith) ∙ ap pos (omega arith));
+        low = omega arith;
+        high = omega arith;
+      };
     }
 raised (negsuc a) h =
     record {
@@ -44,7 +48,7 @@ pub record Sized (d : Date) : Type 0 where
 
 pub record NaturalDay (z : ℤ) : Type 0 where
   pub day : ℕ
-  pub is : z ≡ subℕ day (146097 * liftEras + 719469)
+  pub is : z ≡ subℕ day (epochNumber liftEras)
   pub small : day < 2 ^ 42
 
 pub natural-day : (d : Date) → Sized d → NaturalDay (dayOf d)
@@ -56,7 +60,8 @@ natural-day d s =
       small = bound (ltb 2 (d .month)) (r .by) (d .month) (d .day) (r .lifted .high) (s .month) (s .day);
     }
   where
-    bound : (b : Bool) (n m d : ℕ) → n < 2 ^ 33 → m < 256 → d < 256 → daysInYears (cond b n (n - 1)) + (monthStart (cond b (m - 3) (m + 9)) + d) < 2 ^ 42
+    bound : (b : Bool) (n m d : ℕ) → n < 2 ^ 33 → m < 256 → d < 256
+        → daysInYears (cond b n (n - 1)) + (monthStart (cond b (m - 3) (m + 9)) + d) < 2 ^ 42
     bound true n m d h k l = omega arith
     bound false n m d h k l = omega arith
 
@@ -75,14 +80,19 @@ apart a b s t =
     record {
       from = x .day;
       to = y .day;
-      is = (λ i. y .is i -ℤ x .is i) ∙ difference (y .day) (146097 * liftEras + 719469) (x .day) (146097 * liftEras + 719469) ∙ same (y .day + (146097 * liftEras + 719469)) (146097 * liftEras + 719469 + x .day) (y .day) (x .day) (omega arith);
+      is = (λ i. y .is i -ℤ x .is i) ∙ difference (y .day) (epochNumber liftEras) (x .day) (epochNumber liftEras)
+          ∙ same (y .day + (epochNumber liftEras)) (epochNumber liftEras + x .day) (y .day) (x .day) (omega arith);
       from-small = x .small;
       to-small = y .small;
     }
 
 module _ {z : ℤ} (a : Apart z) where
   pub days-fit : SFits w64 z
-  days-fit = subst (SFits w64) (sym (a .is)) (record { sfits = magnitude (a .to) (a .from) _ (omega (arith, a .to-small)) (omega (arith, a .from-small)) })
+  days-fit =
+      subst (SFits w64) (sym (a .is)) (record {
+        sfits = magnitude (a .to) (a .from) _ (omega (arith, a .to-small))
+            (omega (arith, a .from-small));
+      })
 
   pub seconds-fit : SFits w64 (z *ℤ pos daySeconds)
   seconds-fit =

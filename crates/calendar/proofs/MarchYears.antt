@@ -35,13 +35,16 @@ module _ (a : ℕ) where
   era-is-hundred : suc a % 400 ≡ 0 → suc a % 100 ≡ 0
   era-is-hundred h = omega arith
 
-  grows : (i j k : ℕ) → j ≤ i → suc a / 4 ≡ a / 4 + i → suc a / 100 ≡ a / 100 + j → suc a / 400 ≡ a / 400 + k → daysInYears (suc a) ≡ daysInYears a + (365 + i + k - j)
+  grows : (i j k : ℕ) → j ≤ i → suc a / 4 ≡ a / 4 + i → suc a / 100 ≡ a / 100 + j → suc a / 400 ≡ a / 400 + k
+      → daysInYears (suc a) ≡ daysInYears a + (365 + i + k - j)
   grows i j k h e f g = sums (a / 4) (a / 100) (a / 400) _ _ _ (hundreds-fewer a) e f g
     where
-      sums : (q c e q′ c′ e′ : ℕ) → c ≤ q → q′ ≡ q + i → c′ ≡ c + j → e′ ≡ e + k → 365 * suc a + q′ + e′ - c′ ≡ 365 * a + q + e - c + (365 + i + k - j)
+      sums : (q c e q′ c′ e′ : ℕ) → c ≤ q → q′ ≡ q + i → c′ ≡ c + j → e′ ≡ e + k
+          → 365 * suc a + q′ + e′ - c′ ≡ 365 * a + q + e - c + (365 + i + k - j)
       sums q c e q′ c′ e′ l m n o = omega arith
 
-  by-rule : (p q r : Bool) → eqb (suc a % 4) 0 ≡ p → eqb (suc a % 100) 0 ≡ q → eqb (suc a % 400) 0 ≡ r → daysInYears (suc a) ≡ daysInYears a + cond (p && (not q || r)) 366 365
+  by-rule : (p q r : Bool) → eqb (suc a % 4) 0 ≡ p → eqb (suc a % 100) 0 ≡ q → eqb (suc a % 400) 0 ≡ r
+      → daysInYears (suc a) ≡ daysInYears a + cond (p && (not q || r)) 366 365
   by-rule false true r e f g = absurd (eqb-false _ _ e (hundred-is-fourth (eqb-true _ _ f)))
   by-rule p false true e f g = absurd (eqb-false _ _ f (era-is-hundred (eqb-true _ _ g)))
   by-rule false false false e f g = grows 0 0 0 (omega arith) (by-4 a false e) (by-100 a false f) (by-400 a false g)
@@ -62,7 +65,8 @@ at-most-366 a = by-length (leap (pos (suc a))) (year-length a)
 -- ---- by eras and the years of an era
 pub of-era : (y : ℕ) → daysInYears y ≡ y / 400 * 146097 + (y % 400 * 365 + y % 400 / 4 - y % 400 / 100)
 of-era y =
-    sums (y / 400) (y % 400) (y / 4) (y / 100) (y % 400 / 4) (y % 400 / 100) (omega arith) fourths hundreds (hundreds-fewer y) (hundreds-fewer (y % 400))
+    sums (y / 400) (y % 400) (y / 4) (y / 100) (y % 400 / 4) (y % 400 / 100) (omega arith) fourths hundreds (hundreds-fewer y)
+    (hundreds-fewer (y % 400))
   where
     fourths : y / 4 ≡ 100 * (y / 400) + y % 400 / 4
     fourths = omega arith
@@ -70,7 +74,8 @@ of-era y =
     hundreds : y / 100 ≡ 4 * (y / 400) + y % 400 / 100
     hundreds = omega arith
 
-    sums : (e r a b a′ b′ : ℕ) → y ≡ 400 * e + r → a ≡ 100 * e + a′ → b ≡ 4 * e + b′ → b ≤ a → b′ ≤ a′ → 365 * y + a + e - b ≡ e * 146097 + (r * 365 + a′ - b′)
+    sums : (e r a b a′ b′ : ℕ) → y ≡ 400 * e + r → a ≡ 100 * e + a′ → b ≡ 4 * e + b′ → b ≤ a → b′ ≤ a′
+        → 365 * y + a + e - b ≡ e * 146097 + (r * 365 + a′ - b′)
     sums e r a b a′ b′ h k l m n = omega arith
 
 -- ---- by centuries and the years of a century
@@ -86,7 +91,8 @@ of-century c k h = sums _ _ _ _ _ fourths hundreds eras (omega arith) (omega ari
     eras : (100 * c + k) / 400 ≡ c / 4
     eras = omega arith
 
-    sums : (a b d q e : ℕ) → a ≡ 25 * c + q → b ≡ c → d ≡ e → q ≡ k / 4 → e ≡ c / 4 → k < 100 → 365 * (100 * c + k) + a + d - b ≡ 146097 * c / 4 + 1461 * k / 4
+    sums : (a b d q e : ℕ) → a ≡ 25 * c + q → b ≡ c → d ≡ e → q ≡ k / 4 → e ≡ c / 4 → k < 100
+        → 365 * (100 * c + k) + a + d - b ≡ 146097 * c / 4 + 1461 * k / 4
     sums a b d q e h i j k l m = omega arith
 
 -- ---- the year that holds a day, by the day's last quarter
@@ -97,11 +103,13 @@ reaches : (n p : ℕ) → 4 * n + 3 < p → n < p / 4
 reaches n p h = omega arith
 
 -- day j of year k of century c is day n, b days into the century
-module _ (n c b k j : ℕ) (of-all : n ≡ 146097 * c / 4 + b) (few : k < 100) (of-hundred : b ≡ 1461 * k / 4 + j) (year-ahead : 4 * b + 3 < 1461 * suc k) (century-ahead : 4 * n + 3 < 146097 * suc c) where
+module _ (n c b k j : ℕ) (of-all : n ≡ 146097 * c / 4 + b) (few : k < 100) (of-hundred : b ≡ 1461 * k / 4 + j)
+    (year-ahead : 4 * b + 3 < 1461 * suc k) (century-ahead : 4 * n + 3 < 146097 * suc c) where
   ends : Dec (k < 99) → n < daysInYears (suc (100 * c + k))
   ends (yes l) =
       subst (λ (y : ℕ). n < daysInYears y) next-year
-      (sums (daysInYears (100 * c + suc k)) (146097 * c / 4) (1461 * suc k / 4) (of-century c (suc k) (omega arith)) of-all (reaches b (1461 * suc k) year-ahead))
+      (sums (daysInYears (100 * c + suc k)) (146097 * c / 4) (1461 * suc k / 4) (of-century c (suc k) (omega arith)) of-all
+      (reaches b (1461 * suc k) year-ahead))
     where
       next-year : 100 * c + suc k ≡ suc (100 * c + k)
       next-year = omega arith
@@ -119,12 +127,17 @@ module _ (n c b k j : ℕ) (of-all : n ≡ 146097 * c / 4 + b) (few : k < 100) (
       sums y a h l = omega arith
 
   in-century : InYear n (100 * c + k) j
-  in-century = record { begun = sums (daysInYears (100 * c + k)) (146097 * c / 4) (1461 * k / 4) (of-century c k few) of-all of-hundred; ahead = ends (decLt k 99) }
+  in-century =
+      record {
+        begun = sums (daysInYears (100 * c + k)) (146097 * c / 4) (1461 * k / 4) (of-century c k few) of-all of-hundred;
+        ahead = ends (decLt k 99);
+      }
     where
       sums : (y a e : ℕ) → y ≡ a + e → n ≡ a + b → b ≡ e + j → y + j ≡ n
       sums y a e h i l = omega arith
 
-pub held : (n : ℕ) → InYear n (100 * ((4 * n + 3) / 146097) + (4 * ((4 * n + 3) % 146097 / 4) + 3) / 1461) ((4 * ((4 * n + 3) % 146097 / 4) + 3) % 1461 / 4)
+pub held : (n : ℕ)
+    → InYear n (100 * ((4 * n + 3) / 146097) + (4 * ((4 * n + 3) % 146097 / 4) + 3) / 1461) ((4 * ((4 * n + 3) % 146097 / 4) + 3) % 1461 / 4)
 held n =
     in-century n ((4 * n + 3) / 146097) b ((4 * b + 3) / 1461) ((4 * b + 3) % 1461 / 4)
     (split n (146097 * ((4 * n + 3) / 146097)) ((4 * n + 3) % 146097) (omega arith)) (omega arith)

@@ -12,4 +12,9 @@ real d t =
     let a = and-yes (leb 1 (d .month)) _ t in
     let b = and-yes (leb (d .month) 12) _ (a .1) in
     let c = and-yes (leb 1 (d .day)) (leb (d .day) (monthLength (d .year) (d .month))) (b .1) in
-    record { month-from = leb→le 1 (d .month) (a .0); month-to = leb→le (d .month) 12 (b .0); day-from = leb→le 1 (d .day) (c .0); day-to = leb→le (d .day) _ (c .1) }
+    record {
+      month-from = leb→le 1 (d .month) (a .0);
+      month-to = leb→le (d .month) 12 (b .0);
+      day-from = leb→le 1 (d .day) (c .0);
+      day-to = leb→le (d .day) _ (c .1);
+    }

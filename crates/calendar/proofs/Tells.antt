@@ -1,7 +1,5 @@
 -- What a date or an answer says in plain values tells which it is.
 use mathlib.Core.Path.{_≡_, ap}
-use lib.IntN.{ℤ, natAbs}
-use Prim.Native.Nat.{ℕ}
 use Rattle.refusals.specs.Number.{numberOf}
 use Rattle.refusals.proofs.Tells.{number-tells}
 use Rattle.calendar.specs.Calendar.{Date}

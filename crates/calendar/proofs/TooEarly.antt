@@ -8,9 +8,6 @@ use Rattle.refusals.specs.Outcome.{Outcome, answered, refused}
 use Rattle.calendar.specs.Calendar.{Date}
 use Rattle.calendar.specs.Dates.{tooEarly, daysBetween, ofBoth, daysUntil}
 
-clash : _≡_ {A = ℕ} 0 1 → ⊥
-clash e = omega arith
-
 -- ---- by the tests
 module _ (a b : Date) (o : Outcome ℤ) where
   pub first : tooEarly a ≡ true → refused 1 ≡ ofBoth a b o
@@ -31,7 +28,7 @@ pub given : (a b : Date) (n : ℤ) → answered n ≡ daysUntil a b → Given a 
 given a b n e = by-test (tooEarly a || tooEarly b) refl e
   where
     by-test : (t : Bool) → (tooEarly a || tooEarly b) ≡ t → answered n ≡ cond t (refused 1) (answered (daysBetween a b)) → Given a b n
-    by-test true s e = let z : _≡_ {A = ℕ} 0 1 = cc in absurd (clash z)
+    by-test true s e = let z : _≡_ {A = ℕ} 0 1 = cc in absurd (omega arith)
     by-test false s e = record { days = cc; gives = λ o. sym (ap (λ (t : Bool). cond t (refused 1) o) s) }
 
 pub refuses : (a b : Date) (k : ℕ) → refused k ≡ daysUntil a b → (o : Outcome ℤ) → refused k ≡ ofBoth a b o

@@ -4,3 +4,4 @@ pub mod March
 pub mod Dates
 pub mod Answers
 pub mod Epochs
+pub mod Order

@@ -1,11 +1,11 @@
 // The two directions between a date and its day, each one function, and the steps that they are made of.
 // Years begin here on 1 March, so that a leap day is the last of its year: day 0 is 0000-03-01, and month 0 is March.
 ghost use mathlib.Core.Path.{_≡_};
-ghost use Prim.Native.Nat.{_+_, _*_, _<_, _^_};
+ghost use Prim.Native.Nat.{_+_, _*_, _≤_, _<_, _^_};
 ghost use lib.IntN.{pos, subℕ};
 ghost use Rattle.calendar.specs.Calendar.{on, dateOf};
 ghost use Rattle.calendar.specs.Formula.{dayOf, monthStart};
-ghost use Rattle.calendar.specs.March.{daysInYears, InYear, InMonth, liftEras, Lifted};
+ghost use Rattle.calendar.specs.March.{daysInYears, FromMarch, InYear, InMonth, epochNumber, liftEras, Lifted};
 ghost use Rattle.calendar.specs.Dates.{utcEpochDay};
 ghost use Rattle.calendar.specs.Answers.{dateIn};
 use crate::CivilDate;
@@ -16,28 +16,35 @@ const ERA_YEARS: i64 = 400;
 const ERA_DAYS: i64 = 146_097;
 
 // In quarters of a day: a century has a fourth of an era's days, 36,524 and a quarter; a year of it 365 and a quarter.
-const CENTURY_QUARTERS: u64 = 146_097;
+const CENTURY_QUARTERS: u64 = ERA_DAYS as u64;
 
 const YEAR_QUARTERS: u64 = 1_461;
 
 // Day of 1970-01-01: 1,969 years, 1,969 × 365 + 492 − 19 + 4 days, and 306 days from 1 March to 1 January.
 const UNIX_EPOCH_DAY: i64 = 719_468;
 
-// Day of 1972-01-01: 730 days later, two years without a leap day.
-const UTC_EPOCH_DAY: u64 = 720_198;
+// Day of 1972-01-01: two years without a leap day later.
+const UTC_EPOCH_DAY: u64 = UNIX_EPOCH_DAY as u64 + 730;
 
-// Eras by which years are lifted, so that neither a year of 32 bits nor the year before it is negative.
+// Eras by which years are lifted, so that neither a year of 32 bits nor the year before it is negative: 2^31 / 400 is
+// 5,368,709.12.
 const LIFT_ERAS: i64 = 5_368_710;
 
 const LIFT_YEARS: i64 = LIFT_ERAS * ERA_YEARS;
 
-// A day of a lifted year less this is a Unix day. The days of a month count from 1, so it is one more than the eras' days.
+// The day number of 1970-01-01 in lifted years, where 1 March of the first is day 1, as the days of a month count from 1.
 const LIFT_DAYS: i64 = LIFT_ERAS * ERA_DAYS + UNIX_EPOCH_DAY + 1;
 
 // A year that begins in March, and a day of it from 0 on.
 struct YearDay {
     year: u64,
     day: u64,
+}
+
+// A year that begins in March, and a month of it from 0 on.
+struct MarchMonth {
+    year: u64,
+    month: u64,
 }
 
 // A year counted from so many eras before year 0.
@@ -50,7 +57,7 @@ fn lifted(year: i32) -> u64
 // A day counted from there on, from 1, as a Unix day.
 fn lowered(day: u64) -> i64
     requires { ⌜ day < 2 ^ 62 ⌝ }
-    ensures { λ r. ⌜ r ≡ subℕ day (146097 * liftEras + 719469) ⌝ }
+    ensures { λ r. ⌜ r ≡ subℕ day (epochNumber liftEras) ⌝ }
 {
     day as i64 - LIFT_DAYS
 }
@@ -64,7 +71,8 @@ fn days_before_year(year: u64) -> u64
     year * YEAR_QUARTERS / 4 - century + century / 4
 }
 
-// Days before a month: from March on, five months have 31, 30, 31, 30 and 31 days, 153, and then again.
+// Days before a month: from March on, five months have 31, 30, 31, 30 and 31 days, 153, and then again. A month is so
+// 153 / 5 days on the mean, and 2 more than its fifths, rounded down, give 0, 31, 61, 92, 122, 153 .. 337.
 fn days_before_month(month: u64) -> u64
     requires { ⌜ month < 2 ^ 9 ⌝ }
     ensures { λ r. ⌜ r ≡ monthStart month ⌝ }
@@ -72,18 +80,30 @@ fn days_before_month(month: u64) -> u64
     (153 * month + 2) / 5
 }
 
+// A month of a year, counted from March on.
+fn from_march(year: u64, month: u64) -> MarchMonth
+    requires { ⌜ (1 ≤ year) × (month < 2 ^ 8) ⌝ }
+    ensures { λ r. ⌜ FromMarch year month (r .year) (r .month) ⌝ }
+{
+    if month <= 2 {
+        MarchMonth {
+            year: year - 1,
+            month: month + 9,
+        }
+    } else {
+        MarchMonth {
+            year,
+            month: month - 3,
+        }
+    }
+}
+
 // The Unix day of a date, by civil.rs's formula, whatever its fields.
 pub fn days_of_date(date: CivilDate) -> i64
     ensures { λ r. ⌜ r ≡ dayOf (dateIn date) ⌝ }
 {
-    let year = lifted(date.year);
-    let month = date.month as u64;
-    let day = date.day as u64;
-    if month <= 2 {
-        lowered(days_before_year(year - 1) + days_before_month(month + 9) + day)
-    } else {
-        lowered(days_before_year(year) + days_before_month(month - 3) + day)
-    }
+    let at = from_march(lifted(date.year), date.month as u64);
+    lowered(days_before_year(at.year) + days_before_month(at.month) + date.day as u64)
 }
 
 // The year that holds a day. Centuries, and years of a century, begin after whole quarters, rounded down to days; so the
@@ -101,7 +121,7 @@ fn year_holding(day: u64) -> YearDay
     }
 }
 
-// The month that holds a day of a year: the day's share of 153 days in five months.
+// The month that holds a day of a year: 5 months in 153 days, with the same 2 over, so that each begins on its first day.
 fn month_holding(day: u64) -> u64
     requires { ⌜ day < 366 ⌝ }
     ensures { λ r. ⌜ InMonth day r ⌝ }

@@ -11,11 +11,12 @@ ghost use Rattle.counts.specs.Units.{second, daySeconds};
 ghost use Rattle.calendar.specs.Calendar.{on};
 ghost use Rattle.calendar.specs.Dates.{tooEarly, daysBetween, daysFromUnix, daysUntil, secondsUntil, nanosUntil};
 ghost use Rattle.calendar.specs.Answers.{dateIn, spanIn};
+use counts::units::NANOS_PER_SECOND;
 use refusals::Refusal;
 
 const SECONDS_PER_DAY: i64 = 86_400;
 
-const NANOS_PER_DAY: i64 = 86_400_000_000_000;
+const NANOS_PER_DAY: i64 = SECONDS_PER_DAY * NANOS_PER_SECOND as i64;
 
 // The year before which there is none of 32 bits.
 const LEAST_YEAR: i32 = -2_147_483_648;
@@ -23,7 +24,7 @@ const LEAST_YEAR: i32 = -2_147_483_648;
 // The most days, onward and back, whose nanoseconds a signed 64-bit number holds: 2^63 / NANOS_PER_DAY is 106,751.99.
 const MOST_DAYS: i64 = 106_751;
 
-const MOST_DAYS_BACK: i64 = -106_751;
+const MOST_DAYS_BACK: i64 = -MOST_DAYS;
 
 // A date, with any fields.
 pub struct CivilDate {
@@ -38,7 +39,7 @@ pub enum SpanAnswer {
     Refused(Refusal),
 }
 
-// Whether the year of its March is no year of 32 bits: epoch.rs steps there.
+// Whether the year of the March before it is none of 32 bits, where epoch.rs's step overflows.
 fn too_early(date: CivilDate) -> bool
     ensures { λ r. ⌜ r ≡ tooEarly (dateIn date) ⌝ }
 {

@@ -1,1 +1,4 @@
 pub mod Days
+pub mod Tells
+pub mod CivilTheorems
+pub mod Calls

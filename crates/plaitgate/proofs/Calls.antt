@@ -3,6 +3,8 @@ use Prim.Native.Nat.{ℕ}
 use denote.Ref.{now}
 use Rattle.refusals.proofs.OneAnswer.{OneAnswerAndEnd, both}
 use Rattle.counts.specs.declared.units.DurationParts.{DurationParts}
+use Rattle.calendar.specs.Calendar.{on}
+use Rattle.plaitgate.specs.Civil.{fields}
 use Rattle.plaitgate.specs.Limits.{limitsAt}
 use Rattle.plaitgate.proofs.gps.plaitgate_gps_from_nanos.Reads as gps-from-nanos-contract
 use Rattle.plaitgate.proofs.gps.plaitgate_gps_as_nanos.Reads as gps-as-nanos-contract
@@ -67,6 +69,25 @@ use Rattle.plaitgate.proofs.tai.plaitgate_tai_limits.Reads as tai-limit
 use Rattle.plaitgate.proofs.durations.plaitgate_duration_parts_new.Reads as duration-parts-new-contract
 use Rattle.plaitgate.proofs.durations.plaitgate_duration_from_nanos.Reads as duration-from-nanos-contract
 use Rattle.plaitgate.proofs.durations.plaitgate_duration_as_nanos.Reads as duration-as-nanos-contract
+use Rattle.plaitgate.proofs.civil_dates.plaitgate_civil_date_new.Reads as civil-date-new-contract
+use Rattle.plaitgate.proofs.civil_dates.plaitgate_civil_date_days_from_unix.Reads as civil-date-days-from-unix-contract
+use Rattle.plaitgate.proofs.civil_dates.plaitgate_civil_date_days_until.Reads as civil-date-days-until-contract
+use Rattle.plaitgate.proofs.civil_dates.plaitgate_civil_date_seconds_until.Reads as civil-date-seconds-until-contract
+use Rattle.plaitgate.proofs.civil_dates.plaitgate_civil_date_nanos_until.Reads as civil-date-nanos-until-contract
+use Rattle.plaitgate.proofs.civil_times.plaitgate_civil_from_utc_nanos.Reads as civil-from-utc-nanos-contract
+use Rattle.plaitgate.proofs.civil_times.plaitgate_utc_to_civil.Reads as utc-to-civil-contract
+use Rattle.plaitgate.proofs.civil_times.plaitgate_civil_to_utc_nanos.Reads as civil-to-utc-nanos-contract
+use Rattle.plaitgate.proofs.civil_times.plaitgate_civil_to_utc.Reads as civil-to-utc-contract
+use Rattle.plaitgate.proofs.civil_times.plaitgate_civil_is_whole_second.Reads as civil-is-whole-second-contract
+use Rattle.plaitgate.proofs.by_builtin.plaitgate_builtin_tai_minus_utc_at.Reads as builtin-tai-minus-utc-at-contract
+use Rattle.plaitgate.proofs.by_builtin.plaitgate_glonass_to_utc.Reads as glonass-to-utc-contract
+use Rattle.plaitgate.proofs.by_builtin.plaitgate_utc_to_glonass.Reads as utc-to-glonass-contract
+use Rattle.plaitgate.proofs.by_builtin.plaitgate_builtin_gps_to_utc.Reads as builtin-gps-to-utc-contract
+use Rattle.plaitgate.proofs.by_builtin.plaitgate_builtin_utc_to_gps.Reads as builtin-utc-to-gps-contract
+use Rattle.plaitgate.proofs.by_builtin.plaitgate_builtin_glonass_to_gps.Reads as builtin-glonass-to-gps-contract
+use Rattle.plaitgate.proofs.by_builtin.plaitgate_builtin_gps_to_glonass.Reads as builtin-gps-to-glonass-contract
+use Rattle.plaitgate.proofs.by_builtin.plaitgate_builtin_gps_from_unix_seconds.Reads as builtin-gps-from-unix-seconds-contract
+use Rattle.plaitgate.proofs.by_builtin.plaitgate_builtin_gps_as_unix_seconds.Reads as builtin-gps-as-unix-seconds-contract
 
 abbrev parts-of : ℕ → ℕ → DurationParts
 parts-of s n = record { seconds = s; nanos = n }
@@ -259,3 +280,60 @@ duration-from-nanos κ a x y e f p q = both p q
 
 pub duration-as-nanos : OneAnswerAndEnd duration-as-nanos-contract.Post (λ κ e. now (e .1 .0))
 duration-as-nanos κ a x y e f p q = both p q
+
+pub civil-date-new : OneAnswerAndEnd civil-date-new-contract.Post (λ κ e. on (now (e .1 .1 .1 .0)) (now (e .1 .1 .1 .1 .0)) (now (e .1 .1 .1 .1 .1 .0)))
+civil-date-new κ a x y e f p q = both p q
+
+pub civil-date-days-from-unix : OneAnswerAndEnd civil-date-days-from-unix-contract.Post (λ κ e. now (e .1 .1 .1 .0))
+civil-date-days-from-unix κ a x y e f p q = both p q
+
+pub civil-date-days-until : OneAnswerAndEnd civil-date-days-until-contract.Post (λ κ e. now (e .1 .1 .1 .1 .1 .1 .0))
+civil-date-days-until κ a x y e f p q = both p q
+
+pub civil-date-seconds-until : OneAnswerAndEnd civil-date-seconds-until-contract.Post (λ κ e. now (e .1 .1 .1 .1 .1 .1 .0))
+civil-date-seconds-until κ a x y e f p q = both p q
+
+pub civil-date-nanos-until : OneAnswerAndEnd civil-date-nanos-until-contract.Post (λ κ e. now (e .1 .1 .1 .1 .1 .1 .0))
+civil-date-nanos-until κ a x y e f p q = both p q
+
+pub civil-from-utc-nanos : OneAnswerAndEnd civil-from-utc-nanos-contract.Post (λ κ e. fields (now (e .1 .0)) (now (e .1 .1 .0)) (now (e .1 .1 .1 .0)) (now (e .1 .1 .1 .1 .0)) (now (e .1 .1 .1 .1 .1 .0)) (now (e .1 .1 .1 .1 .1 .1 .0)) (now (e .1 .1 .1 .1 .1 .1 .1 .0)))
+civil-from-utc-nanos κ a x y e f p q = both p q
+
+pub utc-to-civil : OneAnswerAndEnd utc-to-civil-contract.Post (λ κ e. fields (now (e .1 .0)) (now (e .1 .1 .0)) (now (e .1 .1 .1 .0)) (now (e .1 .1 .1 .1 .0)) (now (e .1 .1 .1 .1 .1 .0)) (now (e .1 .1 .1 .1 .1 .1 .0)) (now (e .1 .1 .1 .1 .1 .1 .1 .0)))
+utc-to-civil κ a x y e f p q = both p q
+
+pub civil-to-utc-nanos : OneAnswerAndEnd civil-to-utc-nanos-contract.Post (λ κ e. now (e .1 .1 .1 .1 .1 .1 .1 .0))
+civil-to-utc-nanos κ a x y e f p q = both p q
+
+pub civil-to-utc : OneAnswerAndEnd civil-to-utc-contract.Post (λ κ e. now (e .1 .1 .1 .1 .1 .1 .1 .0))
+civil-to-utc κ a x y e f p q = both p q
+
+pub civil-is-whole-second : OneAnswerAndEnd civil-is-whole-second-contract.Post (λ κ e. now (e .1 .1 .1 .1 .1 .1 .1 .0))
+civil-is-whole-second κ a x y e f p q = both p q
+
+pub builtin-tai-minus-utc-at : OneAnswerAndEnd builtin-tai-minus-utc-at-contract.Post (λ κ e. now (e .1 .0))
+builtin-tai-minus-utc-at κ a x y e f p q = both p q
+
+pub glonass-to-utc : OneAnswerAndEnd glonass-to-utc-contract.Post (λ κ e. now (e .1 .0))
+glonass-to-utc κ a x y e f p q = both p q
+
+pub utc-to-glonass : OneAnswerAndEnd utc-to-glonass-contract.Post (λ κ e. now (e .1 .0))
+utc-to-glonass κ a x y e f p q = both p q
+
+pub builtin-gps-to-utc : OneAnswerAndEnd builtin-gps-to-utc-contract.Post (λ κ e. now (e .1 .0))
+builtin-gps-to-utc κ a x y e f p q = both p q
+
+pub builtin-utc-to-gps : OneAnswerAndEnd builtin-utc-to-gps-contract.Post (λ κ e. now (e .1 .0))
+builtin-utc-to-gps κ a x y e f p q = both p q
+
+pub builtin-glonass-to-gps : OneAnswerAndEnd builtin-glonass-to-gps-contract.Post (λ κ e. now (e .1 .0))
+builtin-glonass-to-gps κ a x y e f p q = both p q
+
+pub builtin-gps-to-glonass : OneAnswerAndEnd builtin-gps-to-glonass-contract.Post (λ κ e. now (e .1 .0))
+builtin-gps-to-glonass κ a x y e f p q = both p q
+
+pub builtin-gps-from-unix-seconds : OneAnswerAndEnd builtin-gps-from-unix-seconds-contract.Post (λ κ e. now (e .1 .0))
+builtin-gps-from-unix-seconds κ a x y e f p q = both p q
+
+pub builtin-gps-as-unix-seconds : OneAnswerAndEnd builtin-gps-as-unix-seconds-contract.Post (λ κ e. now (e .1 .0))
+builtin-gps-as-unix-seconds κ a x y e f p q = both p q

@@ -2,9 +2,17 @@
 ghost use mathlib.Core.Path.{_≡_};
 ghost use lib.IntN.{pos};
 ghost use Rattle.refusals.specs.Outcome.{Gives};
-ghost use Rattle.counts.specs.Answers.{durationIn, partsIn};
+ghost use Rattle.counts.specs.Answers.{countIn, durationIn, partsIn};
 ghost use Rattle.counts.specs.Units.{partsOf};
 ghost use Rattle.scales.specs.Answers.{gpsIn, utcIn, glonassIn, taiIn};
+ghost use Rattle.calendar.specs.Answers.{spanIn};
+ghost use Rattle.civil.specs.Fields.{fieldsIn};
+ghost use Rattle.conversions.specs.Answers.{unixIn};
+ghost use Rattle.plaitgate.specs.Civil.{fields};
+use calendar::SpanAnswer;
+use civil::CivilDateTime;
+use conversions::UnixAnswer;
+use counts::CountAnswer;
 use counts::DurationAnswer;
 use counts::units::PartsAnswer;
 use scales::glonass::GlonassAnswer;
@@ -103,4 +111,71 @@ pub fn parts(answer: PartsAnswer, seconds: &mut u64, nanos: &mut u32) -> u32
             r.number()
         }
     }
+}
+
+pub fn plain_count(answer: CountAnswer, out: &mut u64) -> u32
+    ensures { λ r. ⌜ Gives 0 (countIn answer) r (now (out .exit)) ⌝ }
+{
+    match answer {
+        CountAnswer::Count(n) => {
+            *out = n;
+            0
+        }
+        CountAnswer::Refused(r) => {
+            *out = 0;
+            r.number()
+        }
+    }
+}
+
+pub fn span(answer: SpanAnswer, out: &mut i64) -> u32
+    ensures { λ r. ⌜ Gives (pos 0) (spanIn answer) r (now (out .exit)) ⌝ }
+{
+    match answer {
+        SpanAnswer::Span(n) => {
+            *out = n;
+            0
+        }
+        SpanAnswer::Refused(r) => {
+            *out = 0;
+            r.number()
+        }
+    }
+}
+
+pub fn unix(answer: UnixAnswer, out: &mut i64) -> u32
+    ensures { λ r. ⌜ Gives (pos 0) (unixIn answer) r (now (out .exit)) ⌝ }
+{
+    match answer {
+        UnixAnswer::Seconds(n) => {
+            *out = n;
+            0
+        }
+        UnixAnswer::Refused(r) => {
+            *out = 0;
+            r.number()
+        }
+    }
+}
+
+pub fn civil(
+    c: CivilDateTime,
+    year: &mut i32,
+    month: &mut u8,
+    day: &mut u8,
+    hour: &mut u8,
+    minute: &mut u8,
+    second: &mut u8,
+    nanos: &mut u32,
+)
+    ensures { λ _. ⌜ fields (now (year .exit)) (now (month .exit)) (now (day .exit)) (now (hour .exit)) (now (minute .exit)) (now (second .exit)) (now (nanos .exit)) ≡ fieldsIn c ⌝ }
+{
+    let c_year = c.year;
+    *year = c_year;
+    *month = c.month;
+    *day = c.day;
+    *hour = c.hour;
+    *minute = c.minute;
+    *second = c.second;
+    *nanos = c.nanos;
 }

@@ -1,6 +1,9 @@
 // The library for hosts in other languages: every public call as a C function on numbers.
 // Each returns the refusal's number, 0 for an answer, and writes its results through references, zeros on a refusal.
 // include/plaitgate.h declares them.
+pub mod by_builtin;
+pub mod civil_dates;
+pub mod civil_times;
 pub mod durations;
 mod give;
 pub mod glonass;

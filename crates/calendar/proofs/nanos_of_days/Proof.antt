@@ -16,7 +16,9 @@ read s = toZ-ofZ (s .fits .days)
 
 module _ (c : tie.Else2) where
   in-reach : Near (c .before .before .args .days)
-  in-reach = near (c .before .before .args .days) (subst (λ (z : ℤ). ltZ z (negsuc 106750) ≡ false) (read (c .before .before)) (c .before .if1 .left)) (subst (λ (z : ℤ). ltZ (pos 106751) z ≡ false) (read (c .before .before)) (c .if2 .left))
+  in-reach =
+      near (c .before .before .args .days) (subst (λ (z : ℤ). ltZ z (negsuc 106750) ≡ false) (read (c .before .before))
+      (c .before .if1 .left)) (subst (λ (z : ℤ). ltZ (pos 106751) z ≡ false) (read (c .before .before)) (c .if2 .left))
 
   fits : SFits w64 (toZ w64 (ofZ w64 (c .before .before .args .days)) *ℤ pos 86400000000000)
   fits = subst (λ (z : ℤ). SFits w64 (z *ℤ pos 86400000000000)) (sym (read (c .before .before))) (record { sfits = in-reach .fits })

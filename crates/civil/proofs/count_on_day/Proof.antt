@@ -45,7 +45,8 @@ returns-3 : tie.Need-returns-3
 returns-3 c =
     let arm = c .before .before .before .before in
     let called = arm .before .before in
-    c .plus .ensures ∙ from-1972 (called .before .args .unix-day) (called .before .args .time) (sym (arm .day .given .1) ∙ signed called) (c .before .before .if1 .left)
+    c .plus .ensures ∙ from-1972 (called .before .args .unix-day) (called .before .args .time)
+    (sym (arm .day .given .1) ∙ signed called) (c .before .before .if1 .left)
 
 returns-4 : tie.Need-returns-4
 returns-4 c =

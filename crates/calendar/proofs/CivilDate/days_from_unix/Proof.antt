@@ -1,10 +1,10 @@
 -- A date that is too early is refused, and any other has its day.
-use mathlib.Core.Path.{_≡_, sym, ap, _∙_}
+use mathlib.Core.Path.{sym, ap, _∙_}
 use mathlib.Core.Bool.{Bool, cond}
 use lib.IntN.{ℤ}
 use mir.Syntax.{w64}
 use mir.Facts.{toZ-ofZ}
-use Rattle.refusals.specs.Outcome.{Outcome, answered, refused}
+use Rattle.refusals.specs.Outcome.{answered, refused}
 use Rattle.calendar.specs.Answers.{dateIn}
 use Rattle.calendar.specs.Formula.{dayOf}
 use borrow.Author.Needs.{needs}
@@ -19,12 +19,14 @@ days-of-date-requires c κs = search needs
 
 returns : tie.Need-returns
 returns c =
-    sym (ap (λ (t : Bool). cond t (refused 1) (answered (dayOf (dateIn (c .before .before .args .self))))) (sym (c .before .too-early .ensures) ∙ c .if1 .taken))
+    sym (ap (λ (t : Bool). cond t (refused 1) (answered (dayOf (dateIn (c .before .before .args .self)))))
+    (sym (c .before .too-early .ensures) ∙ c .if1 .taken))
 
 returns-2 : tie.Need-returns-2
 returns-2 c =
     ap (λ (z : ℤ). answered z) (toZ-ofZ {w = w64} (record { sfits = c .days-of-date .ok }) ∙ c .days-of-date .ensures)
-    ∙ sym (ap (λ (t : Bool). cond t (refused 1) (answered (dayOf (dateIn (c .before .before .before .args .self))))) (sym (c .before .before .too-early .ensures) ∙ c .before .if1 .left))
+    ∙ sym (ap (λ (t : Bool). cond t (refused 1) (answered (dayOf (dateIn (c .before .before .before .args .self)))))
+    (sym (c .before .before .too-early .ensures) ∙ c .before .if1 .left))
 
 pub days-from-unix-spec : {M : Type 1} → statement M
 days-from-unix-spec =

@@ -1,5 +1,5 @@
 -- Two dates of which one is too early are refused, and any others have the days between them.
-use mathlib.Core.Path.{_≡_, sym, ap, _∙_}
+use mathlib.Core.Path.{sym, ap, _∙_}
 use lib.IntN.{ℤ}
 use mir.Syntax.{w64}
 use mir.Facts.{toZ-ofZ}
@@ -26,13 +26,15 @@ returns c =
 returns-2 : tie.Need-returns-2
 returns-2 c =
     let t = c .before .before .before in
-    second (dateIn (t .before .args .self)) (dateIn (t .before .args .other)) _ (sym (t .too-early .ensures) ∙ c .before .before .if1 .left) (sym (c .before .too-early2 .ensures) ∙ c .if2 .taken)
+    second (dateIn (t .before .args .self)) (dateIn (t .before .args .other)) _
+    (sym (t .too-early .ensures) ∙ c .before .before .if1 .left) (sym (c .before .too-early2 .ensures) ∙ c .if2 .taken)
 
 returns-3 : tie.Need-returns-3
 returns-3 c =
     let t = c .before .before .before .before in
     ap (λ (z : ℤ). answered z) (toZ-ofZ {w = w64} (record { sfits = c .days-between .ok }) ∙ c .days-between .ensures)
-    ∙ neither (dateIn (t .before .args .self)) (dateIn (t .before .args .other)) _ (sym (t .too-early .ensures) ∙ c .before .before .before .if1 .left) (sym (c .before .before .too-early2 .ensures) ∙ c .before .if2 .left)
+    ∙ neither (dateIn (t .before .args .self)) (dateIn (t .before .args .other)) _
+    (sym (t .too-early .ensures) ∙ c .before .before .before .if1 .left) (sym (c .before .before .too-early2 .ensures) ∙ c .before .if2 .left)
 
 pub days-until-spec : {M : Type 1} → statement M
 days-until-spec =

@@ -8,7 +8,7 @@ use mir.Facts.{toZ-ofZ}
 use Rattle.refusals.specs.Outcome.{answered}
 use Rattle.calendar.specs.Answers.{dateIn, spanIn}
 use Rattle.calendar.specs.Dates.{daysBetween}
-use Rattle.calendar.proofs.Lifting.{Sized, Apart, apart, days-fit, seconds-fit}
+use Rattle.calendar.proofs.Lifting.{Apart, apart, days-fit, seconds-fit}
 use Rattle.calendar.proofs.TooEarly.{Given, given, refuses}
 use borrow.Author.Needs.{needs}
 use Rattle.calendar.proofs.CivilDate.seconds_until.Statement.{statement}
@@ -28,9 +28,13 @@ module _ (c : tie.After-known-told) where
   spans = given _ _ _ (ap spanIn (sym (c .before .days .given .1)) ∙ c .before .before .before .days-until .ensures)
 
   between : Apart (daysBetween (dateIn (start .args .self)) (dateIn (start .args .other)))
-  between = apart (dateIn (start .args .self)) (dateIn (start .args .other)) (record { year = omega arith; month = omega arith; day = omega arith }) (record { year = omega arith; month = omega arith; day = omega arith })
+  between =
+      apart (dateIn (start .args .self)) (dateIn (start .args .other))
+      (record { year = omega arith; month = omega arith; day = omega arith })
+      (record { year = omega arith; month = omega arith; day = omega arith })
 
-  read : toZ w64 (ofZ w64 (c .before .days .given .0 .0)) *ℤ pos 86400 ≡ daysBetween (dateIn (start .args .self)) (dateIn (start .args .other)) *ℤ pos 86400
+  read : toZ w64 (ofZ w64 (c .before .days .given .0 .0)) *ℤ pos 86400 ≡ daysBetween (dateIn (start .args .self))
+      (dateIn (start .args .other)) *ℤ pos 86400
   read = ap (λ (z : ℤ). z *ℤ pos 86400) (toZ-ofZ {w = w64} (subst (SFits w64) (sym (spans .days)) (days-fit between)) ∙ spans .days)
 
   fits : SFits w64 (toZ w64 (ofZ w64 (c .before .days .given .0 .0)) *ℤ pos 86400)

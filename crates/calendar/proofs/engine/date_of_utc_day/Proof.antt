@@ -45,7 +45,8 @@ returns c =
     let d = c .before .before .before in
     let y = d .before .before in
     c .date-of .ensures
-    ∙ early (y .before .args .day + 720198) (y .before .args .day + 730) (y .year-holding .result .year) (d .before .month-holding .result) (y .year-holding .result .day) (d .days-before-month .result)
+    ∙ early (y .before .args .day + 720198) (y .before .args .day + 730) (y .year-holding .result .year)
+    (d .before .month-holding .result) (y .year-holding .result .day) (d .days-before-month .result)
     (omega arith) (y .year-holding .ensures) (d .before .month-holding .ensures) (d .days-before-month .ensures) (c .before .if1 .taken)
 
 returns-2 : tie.Need-returns-2
@@ -53,7 +54,8 @@ returns-2 c =
     let d = c .before .before .before .before in
     let y = d .before .before in
     c .date-of2 .ensures
-    ∙ late (y .before .args .day + 720198) (y .before .args .day + 730) (y .year-holding .result .year) (d .before .month-holding .result) (y .year-holding .result .day) (d .days-before-month .result)
+    ∙ late (y .before .args .day + 720198) (y .before .args .day + 730) (y .year-holding .result .year)
+    (d .before .month-holding .result) (y .year-holding .result .day) (d .days-before-month .result)
     (omega arith) (y .year-holding .ensures) (d .before .month-holding .ensures) (d .days-before-month .ensures) (c .before .before .if1 .left)
 
 pub date-of-utc-day-spec : {M : Type 1} → statement M

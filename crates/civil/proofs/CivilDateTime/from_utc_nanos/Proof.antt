@@ -1,5 +1,5 @@
 -- The engine gives the date of the count's day, and quotients and rests its time.
-use mathlib.Core.Path.{_≡_, ap, _∙_}
+use mathlib.Core.Path.{ap, _∙_}
 use Prim.Native.Nat.{ℕ, _/_, _%_}
 use native.Mathlib.Omega.{arith}
 use lib.IntN.{ℤ}
@@ -39,7 +39,13 @@ returns c =
   where
     at : ℕ → Date → Fields
     at n x =
-        record { date = x; hour = n / 1000000000 % 86400 / 3600; minute = n / 1000000000 % 3600 / 60; second = n / 1000000000 % 60; nanos = n % 1000000000 }
+        record {
+          date = x;
+          hour = n / 1000000000 % 86400 / 3600;
+          minute = n / 1000000000 % 3600 / 60;
+          second = n / 1000000000 % 60;
+          nanos = n % 1000000000;
+        }
 
 pub from-utc-nanos-spec : {M : Type 1} → statement M
 from-utc-nanos-spec =

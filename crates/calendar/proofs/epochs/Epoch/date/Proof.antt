@@ -1,5 +1,5 @@
 -- Each constant is the date of its epoch.
-use mathlib.Core.Path.{_≡_, sym, ap}
+use mathlib.Core.Path.{sym, ap}
 use borrow.Author.Needs.{needs}
 use Rattle.calendar.specs.Epochs.{epochOf}
 use Rattle.calendar.proofs.epochs.Epoch.date.Statement.{statement}
@@ -48,4 +48,6 @@ returns-7 : tie.Need-returns-7
 returns-7 c = sym (ap epochOf (c .enum-told7 .given .1))
 
 pub date-spec : {M : Type 1} → statement M
-date-spec = tie.close (tie.spec enum-told enum-told-2 enum-told-3 enum-told-4 enum-told-5 enum-told-6 enum-told-7 returns returns-2 returns-3 returns-4 returns-5 returns-6 returns-7)
+date-spec =
+    tie.close (tie.spec enum-told enum-told-2 enum-told-3 enum-told-4 enum-told-5 enum-told-6 enum-told-7 returns returns-2
+    returns-3 returns-4 returns-5 returns-6 returns-7)

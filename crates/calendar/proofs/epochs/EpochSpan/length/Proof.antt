@@ -1,5 +1,5 @@
 -- Each constant is what the formula, computed, says between its two epochs.
-use mathlib.Core.Path.{_≡_, sym, ap}
+use mathlib.Core.Path.{sym, ap}
 use borrow.Author.Needs.{needs}
 use Rattle.calendar.specs.Formula.{era, yoe, doy, doe, formula}
 use Rattle.calendar.specs.Epochs.{lengthOf}
@@ -70,4 +70,6 @@ unfolding era yoe doy doe formula
 returns-9 c = sym (ap lengthOf (c .enum-told9 .given .1))
 
 pub length-spec : {M : Type 1} → statement M
-length-spec = tie.close (tie.spec enum-told enum-told-2 enum-told-3 enum-told-4 enum-told-5 enum-told-6 enum-told-7 enum-told-8 enum-told-9 returns returns-2 returns-3 returns-4 returns-5 returns-6 returns-7 returns-8 returns-9)
+length-spec =
+    tie.close (tie.spec enum-told enum-told-2 enum-told-3 enum-told-4 enum-told-5 enum-told-6 enum-told-7 enum-told-8 enum-told-9
+    returns returns-2 returns-3 returns-4 returns-5 returns-6 returns-7 returns-8 returns-9)
