@@ -69,15 +69,24 @@ value-below (b ∷ bs) v k d h =
     let wider : k + suc (length bs) ≡ suc k + length bs = omega arith in
     rw wider (value-below bs (v * 10 + (b - 48)) (suc k) (second-half (isDigit b) (allDigits bs) d) (omega (arith, pow-suc 10 k)))
 
--- a number of at most k digits fits its places
-places-fit : (k n : ℕ) → n < 10 ^ k → (n < 10 ^ placesUpTo k n) × (placesUpTo k n ≤ k)
+-- the places of a number of at most k digits hold it
+places-hold : (k n : ℕ) → n < 10 ^ k → n < 10 ^ placesUpTo k n
 unfolding placesUpTo
-places-fit zero n h = (h, omega arith)
-places-fit (suc k) n h = by-size (decLt n 10) (places-fit k (n / 10) (omega (arith, pow-suc 10 k)))
+places-hold zero n h = h
+places-hold (suc k) n h = by-size (decLt n 10) (places-hold k (n / 10) (omega (arith, pow-suc 10 k)))
   where
-    by-size : Dec (n < 10) → (n / 10 < 10 ^ placesUpTo k (n / 10)) × (placesUpTo k (n / 10) ≤ k) → (n < 10 ^ placesUpTo (suc k) n) × (placesUpTo (suc k) n ≤ suc k)
+    by-size : Dec (n < 10) → n / 10 < 10 ^ placesUpTo k (n / 10) → n < 10 ^ placesUpTo (suc k) n
     by-size (yes l) rest = rw (lt-ltb n 10 l) (omega arith)
     by-size (no m) rest = rw (le-ltb n 10 (omega (arith, m))) (omega (arith, pow-suc 10 (placesUpTo k (n / 10))))
+
+places-most : (k n : ℕ) → placesUpTo k n ≤ k
+unfolding placesUpTo
+places-most zero n = omega arith
+places-most (suc k) n = by-size (decLt n 10) (places-most k (n / 10))
+  where
+    by-size : Dec (n < 10) → placesUpTo k (n / 10) ≤ k → placesUpTo (suc k) n ≤ suc k
+    by-size (yes l) rest = rw (lt-ltb n 10 l) (omega arith)
+    by-size (no m) rest = rw (le-ltb n 10 (omega (arith, m))) (omega arith)
 
 places-some : (k n : ℕ) → 0 < placesUpTo (suc k) n
 unfolding placesUpTo
@@ -87,14 +96,14 @@ places-some k n = by-size (decLt n 10)
     by-size (yes l) = rw (lt-ltb n 10 l) (omega arith)
     by-size (no m) = rw (le-ltb n 10 (omega (arith, m))) (omega arith)
 
-pub decimal-length : (n : ℕ) → n < 2 ^ 64 → (0 < length (decimal n)) × (length (decimal n) ≤ 20)
-decimal-length n h =
+pub decimal-length : (n : ℕ) → (0 < length (decimal n)) × (length (decimal n) ≤ 20)
+decimal-length n =
     let long = digits-length (placesUpTo 20 n) n in
-    (omega (arith, places-some 19 n), omega (arith, places-fit 20 n (omega arith) .1))
+    (omega (arith, places-some 19 n), omega (arith, places-most 20 n))
 
 -- a count is read from its digits
 pub count-back : (n : ℕ) → n < 2 ^ 64 → countRead (decimal n) ≡ answered n
 count-back n h =
-    let value : valueOf (decimal n) ≡ n = value-of-digits (placesUpTo 20 n) n (places-fit 20 n (omega arith) .0) in
-    let long = decimal-length n h in
+    let value : valueOf (decimal n) ≡ n = value-of-digits (placesUpTo 20 n) n (places-hold 20 n (omega arith)) in
+    let long = decimal-length n in
     is-count (decimal n) (long .0) (long .1) (digits-are-digits (placesUpTo 20 n) n) (omega arith) ∙ ap answered value

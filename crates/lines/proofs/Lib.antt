@@ -1,0 +1,4 @@
+pub mod Years
+pub mod Outcomes
+pub mod Turns
+pub mod Sound
