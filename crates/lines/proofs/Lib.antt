@@ -2,3 +2,4 @@ pub mod Years
 pub mod Outcomes
 pub mod Turns
 pub mod Sound
+pub mod WholeInput

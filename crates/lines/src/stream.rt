@@ -21,7 +21,8 @@ fn say(way: Way, what: &[u8]) {
     match way {
         Way::ToCivil => io::write_all(STDERR_FILENO, b"gpscivil: "),
         Way::ToGps => io::write_all(STDERR_FILENO, b"civilgps: "),
-    };
+    }
+    ;
     io::write_all(STDERR_FILENO, what);
 }
 

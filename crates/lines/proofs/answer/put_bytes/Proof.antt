@@ -44,7 +44,7 @@ loop-again c =
     let s = now (a .s) in
     let place : a .at + i ≡ a .at + length (take i s) = omega (arith, length-take-le i s (omega arith)) in (
       joined (now (a .out)) (a .at) (a .at + i) (take i s) (getD s i 0 ∷ []) (at-loop .loop .inv .0) place refl
-      ∙ ap (sets (now (a .out)) (a .at)) (sym (take-suc s i 0 (omega arith))) ∙ ap (λ (k : ℕ). sets (now (a .out)) (a .at) (take k s)) (sym (add-one i)),
+          ∙ ap (sets (now (a .out)) (a .at)) (sym (take-suc s i 0 (omega arith))) ∙ ap (λ (k : ℕ). sets (now (a .out)) (a .at) (take k s)) (sym (add-one i)),
       omega arith,
       simp length-set (at-loop .loop .inv .2),
     )
