@@ -2,4 +2,5 @@ pub mod Years
 pub mod Outcomes
 pub mod Turns
 pub mod Sound
+pub mod TakenPieces
 pub mod WholeInput

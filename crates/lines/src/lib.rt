@@ -1,7 +1,6 @@
 // The two programs' work on bytes: a line answered, and an input cut into lines whose answers are gathered.
-pub mod answer;
+mod answer;
 pub mod inner;
-pub mod stream;
 
 // What a program does with a line: gpscivil takes a GPS count and answers in the civil form, civilgps the way back.
 pub enum Way {

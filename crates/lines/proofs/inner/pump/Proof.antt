@@ -12,8 +12,8 @@ use Rattle.lines.specs.Machine.{Machine, machine, run}
 use Rattle.lines.specs.declared.Way.{Way}
 use Rattle.lines.proofs.Outcomes.{answer-short}
 use Rattle.lines.proofs.Sound.{Sound, sound, goes}
-use Rattle.lines.proofs.stream.pump.Statement.{statement}
-use Rattle.lines.proofs.stream.pump.Tie as tie
+use Rattle.lines.proofs.inner.pump.Statement.{statement}
+use Rattle.lines.proofs.inner.pump.Tie as tie
 
 abbrev Inv-loop : tie.InvT-loop
 Inv-loop way line₀ used block out₀ u₀ at₀ t10 line out u at = (at ≤ length block) × (u ≤ 128) × (length line ≡ length line₀) × (length out ≡ length out₀)

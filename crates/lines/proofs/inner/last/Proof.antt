@@ -6,8 +6,8 @@ use lib.ListN.{take}
 use Rattle.lines.specs.Answers.{answerTo}
 use Rattle.lines.proofs.Outcomes.{answer-short}
 use Rattle.lines.proofs.Sound.{end-short}
-use Rattle.lines.proofs.stream.last.Statement.{statement}
-use Rattle.lines.proofs.stream.last.Tie as tie
+use Rattle.lines.proofs.inner.last.Statement.{statement}
+use Rattle.lines.proofs.inner.last.Tie as tie
 
 finish-requires : tie.Need-finish-requires
 finish-requires c κs = search needs

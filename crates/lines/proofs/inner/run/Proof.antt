@@ -4,8 +4,8 @@ use Prim.Native.Nat.{_≤_}
 use borrow.Author.Needs.{needs}
 use lib.ListN.{length}
 use Rattle.lines.specs.Going.{Going}
-use Rattle.lines.proofs.stream.run.Statement.{statement}
-use Rattle.lines.proofs.stream.run.Tie as tie
+use Rattle.lines.proofs.inner.run.Statement.{statement}
+use Rattle.lines.proofs.inner.run.Tie as tie
 
 abbrev Inv-loop : tie.InvT-loop
 Inv-loop way line₀ block₀ out₀ used₀ turns₀ line block out used turns = (length line ≡ length line₀) × (length block ≡ length block₀) × (length out ≡ length out₀) × (used ≤ 128)
