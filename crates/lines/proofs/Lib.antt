@@ -4,3 +4,5 @@ pub mod Turns
 pub mod Sound
 pub mod TakenPieces
 pub mod WholeInput
+pub mod ReadBack
+pub mod Calls

@@ -3,7 +3,7 @@ use mathlib.Core.Path.{_≡_}
 use Prim.Native.Nat.{ℕ, _+_}
 use mathlib.Core.Bool.{cond}
 use mathlib.Core.List.{List, [], _∷_, _++_}
-use lib.Dec.{leb}
+use lib.Dec.{leb, ltb}
 use lib.IntN.{pos, natAbs}
 use lib.ListN.{length}
 use lib.Seq.{sets}
@@ -82,3 +82,7 @@ answerTo way l = lineOf (cond (leb (length l) 127) (outcomeOf way l) (refused 10
 -- a text is written at a place of a slice, and where it ends is told
 abbrev pub Puts : List ℕ → List ℕ → ℕ → List ℕ → ℕ → Type 0
 Puts text out at out′ end = (end ≡ at + length text) × (out′ ≡ sets out at text)
+
+-- a text where there is room for the longest answer, 31 bytes, and else nothing
+abbrev pub within : List ℕ → List ℕ → List ℕ
+within out text = cond (ltb (length out) 31) [] text
