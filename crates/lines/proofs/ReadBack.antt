@@ -1,5 +1,5 @@
 -- What gpscivil writes is read back: the form of a UTC count gives that count, and civilgps of it answers for that count.
-use mathlib.Core.Path.{_≡_, refl, sym, ap, _∙_}
+use mathlib.Core.Path.{_≡_, sym, ap, _∙_}
 use mathlib.Core.List.{List}
 use Prim.Native.Nat.{ℕ, _<_, _^_}
 use lib.IntN.{ℤ}
@@ -12,7 +12,7 @@ use Rattle.builtin.specs.Builtin.{builtin}
 use Rattle.digits.specs.Decimal.{countRead}
 use Rattle.stamps.specs.Form.{stampRead}
 use Rattle.stamps.proofs.WayBack.{written-reads}
-use Rattle.lines.specs.Answers.{stampOf, fieldsIn, civilOf, civilOfLine, gpsOfUtc, gpsOfStamp, gpsOfLine}
+use Rattle.lines.specs.Answers.{stampOf, fieldsIn, civilOf, civilOfLine, gpsOfUtc, gpsOfLine}
 use Rattle.lines.proofs.Years.{year-is, fits-form}
 use Rattle.lines.proofs.Outcomes.{count-answered, stamp-answered, digits-answered, form-answered}
 

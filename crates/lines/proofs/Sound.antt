@@ -1,12 +1,12 @@
 -- Where the machine comes to: the buffer and the output are not overrun, and it takes a byte where there is room for an answer.
-use mathlib.Core.Path.{_≡_, refl, sym, ap, _∙_}
+use mathlib.Core.Path.{_≡_, refl}
 use mathlib.Core.Bool.{Bool, true, false, cond, _&&_}
 use mathlib.Core.List.{List, [], _∷_}
 use Prim.Native.Nat.{ℕ, suc, _+_, _-_, _≤_, _<_}
 use native.Mathlib.Omega.{arith}
 use borrow.Author.Tests.{ltb-true, ltb-false, le-ltb}
 use lib.Dec.{eqb, ltb}
-use lib.ListN.{length, take, set}
+use lib.ListN.{length, set}
 use lib.Seq.{sets, length-sets}
 use Rattle.lines.specs.Machine.{Machine, machine, carried, answeredBy, kept, run, atEnd}
 

@@ -1,5 +1,5 @@
 -- Bytes between two others: their number, their parts, and what is made of parts.
-use mathlib.Core.Path.{_≡_, refl, sym, ap, _∙_}
+use mathlib.Core.Path.{_≡_, refl, ap, _∙_}
 use mathlib.Core.Bool.{Bool, true, false, _&&_}
 use mathlib.Core.List.{List, [], _∷_, _++_}
 use Prim.Native.Nat.{ℕ, zero, suc, _+_, _<_, _≤_}
@@ -9,7 +9,6 @@ use borrow.Author.Tests.{le-leb, lt-leb}
 use lib.Dec.{leb}
 use lib.ListN.{length, getD, take, drop}
 use lib.Seq.{drop-cons}
-use Rattle.digits.specs.Decimal.{isDigit, allDigits}
 use Rattle.digits.proofs.WayBack.{first-half, second-half}
 use Rattle.stamps.specs.Form.{within}
 

@@ -1,19 +1,16 @@
 -- Bytes in the form: their fields fit, and the form is written and read back as it was.
-use mathlib.Core.Path.{_≡_, refl, sym, ap, _∙_}
-use mathlib.Core.Bool.{true, false, _&&_}
-use mathlib.Core.List.{List, [], _∷_, _++_, append-nil}
-use Prim.Native.Nat.{ℕ, zero, suc, _+_, _^_, _<_, _≤_}
+use mathlib.Core.Path.{_≡_, refl, _∙_}
+use mathlib.Core.Bool.{true, false}
+use mathlib.Core.List.{List, [], _∷_}
+use Prim.Native.Nat.{ℕ, zero, suc, _^_, _<_}
 use native.Mathlib.Nat.{zero-add}
-use native.Mathlib.Omega.{arith}
-use lib.Dec.{leb, lit<}
-use lib.ListN.{length, take, drop, replicate, length-replicate, take-append-drop}
-use lib.Seq.{drop-drop}
+use lib.Dec.{lit<}
+use lib.ListN.{length, take, drop, replicate, length-replicate}
 use Rattle.refusals.specs.Outcome.{answered, refused}
 use Rattle.digits.specs.Decimal.{isDigit, allDigits, valueOf, inDigits}
-use Rattle.digits.proofs.WayBack.{first-half, second-half, value-below, digits-of-value, value-of-digits, digits-are-digits}
-use Rattle.stamps.specs.Form.{Fits, field, fieldsAt, first, last, stampRead, within, written}
-use Rattle.stamps.specs.declared.Stamp.{Stamp}
-use Rattle.stamps.proofs.Between.{as-long, rest-within, start-within, join}
+use Rattle.digits.proofs.WayBack.{first-half, second-half, value-below, digits-of-value}
+use Rattle.stamps.specs.Form.{Fits, field, fieldsAt, first, last, stampRead, within}
+use Rattle.stamps.proofs.Between.{as-long, rest-within, start-within}
 
 -- digits lie between zeros and nines
 digits-between : (k : ℕ) (s : List ℕ) → within (replicate k 48) (replicate k 57) s ≡ true → allDigits s ≡ true

@@ -1,9 +1,9 @@
 -- `read` meets its contract: its test is the definition's, and the fields of what passes it fit.
-use mathlib.Core.Path.{_≡_, sym, ap, _∙_}
+use mathlib.Core.Path.{sym, ap, _∙_}
 use borrow.Author.Needs.{needs}
 use denote.Ref.{now}
 use Rattle.refusals.specs.Outcome.{answered}
-use Rattle.stamps.specs.Form.{first, last, within}
+use Rattle.stamps.specs.Form.{within}
 use Rattle.stamps.proofs.Fields.{fits, long, read-as, refused-as}
 use Rattle.stamps.proofs.read.Statement.{statement}
 use Rattle.stamps.proofs.read.Tie as tie

@@ -1,11 +1,11 @@
 -- `field` meets its contract. The invariant: the field's bytes from the i-th on say, behind `value`, what all of them say.
-use mathlib.Core.Path.{_≡_, refl, sym, ap, _∙_}
-use Prim.Native.Nat.{ℕ, _+_, _-_, _*_, _^_, _<_, _≤_}
-use native.Mathlib.Nat.{add-zero, sub-zero, sub-self}
+use mathlib.Core.Path.{_≡_, sym, _∙_}
+use Prim.Native.Nat.{_+_, _-_, _*_, _^_, _≤_}
+use native.Mathlib.Nat.{add-zero, sub-zero}
 use native.Mathlib.Omega.{arith}
 use borrow.Author.Needs.{needs}
 use denote.Ref.{now}
-use lib.ListN.{getD, take, drop}
+use lib.ListN.{take, drop}
 use Rattle.digits.specs.Decimal.{valueFrom, valueOf}
 use Rattle.digits.proofs.Reading.{field-turn, field-room, field-small}
 use Rattle.digits.proofs.inner.field.Statement.{statement}

@@ -1,7 +1,6 @@
 -- `put_last` meets its contract. The invariant: the digits behind `left` are written, and `rest` is the number without them.
-use mathlib.Core.Path.{_≡_, refl, sym, ap, _∙_}
-use mathlib.Core.List.{List}
-use Prim.Native.Nat.{ℕ, _+_, _-_, _/_, _%_, _^_, _≤_}
+use mathlib.Core.Path.{_≡_, refl, _∙_}
+use Prim.Native.Nat.{_+_, _-_, _/_, _^_, _≤_}
 use native.Mathlib.Nat.{add-zero, sub-zero, sub-self, div-one}
 use native.Mathlib.Omega.{arith}
 use borrow.Author.Needs.{needs}

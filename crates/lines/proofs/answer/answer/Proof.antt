@@ -1,17 +1,15 @@
 -- `answer` meets its contract: its tests are the definition's.
 use mathlib.Core.Path.{_≡_, sym, ap, _∙_}
-use mathlib.Core.List.{List}
-use Prim.Native.Nat.{ℕ, _≤_, _-_}
+use Prim.Native.Nat.{ℕ, _-_}
 use native.Mathlib.Nat.{sub-zero}
 use native.Mathlib.Omega.{arith}
 use borrow.Author.Needs.{needs}
 use denote.Ref.{now}
 use lib.ListN.{length, take}
 use lib.Seq.{length-take-le}
-use Rattle.refusals.specs.Outcome.{Outcome, answered, refused}
+use Rattle.refusals.specs.Outcome.{refused}
 use Rattle.lines.specs.Answers.{civilOfLine, gpsOfLine, lineOf, outcomeOf, answerTo}
 use Rattle.lines.specs.declared.Way.{Way}
-use Rattle.lines.specs.declared.Way.the-variants.{ToCivil, ToGps}
 use Rattle.lines.proofs.Outcomes.{long-line, short-line}
 use Rattle.lines.proofs.answer.answer.Statement.{statement}
 use Rattle.lines.proofs.answer.answer.Tie as tie

@@ -1,5 +1,5 @@
 -- `answer_count` meets its contract: the form of the UTC count, or why there is none.
-use mathlib.Core.Path.{_≡_, sym, ap, _∙_}
+use mathlib.Core.Path.{sym, ap, _∙_}
 use borrow.Author.Needs.{needs}
 use denote.Ref.{now}
 use Rattle.scales.specs.Answers.{utcIn}

@@ -1,5 +1,5 @@
 -- `answer_gps` meets its contract: the count of the digits, or why there is none.
-use mathlib.Core.Path.{_≡_, sym, ap, _∙_}
+use mathlib.Core.Path.{sym, ap, _∙_}
 use borrow.Author.Needs.{needs}
 use denote.Ref.{now}
 use Rattle.counts.specs.Answers.{countIn}

@@ -1,12 +1,11 @@
 -- `put_refused` meets its contract: the word, the number and the line's end, each from where the one before ends.
 use mathlib.Core.Path.{_≡_, refl, sym, ap, _∙_}
-use mathlib.Core.List.{List, [], _∷_, _++_}
-use Prim.Native.Nat.{ℕ, _+_}
+use mathlib.Core.List.{[], _∷_, _++_}
+use Prim.Native.Nat.{_+_}
 use native.Mathlib.Omega.{arith}
 use borrow.Author.Needs.{needs}
 use denote.Ref.{now}
 use lib.ListN.{length, length-append, length-set}
-use lib.Seq.{sets}
 use Rattle.digits.specs.Decimal.{decimal}
 use Rattle.digits.proofs.Stores.{joined}
 use Rattle.digits.proofs.WayBack.{decimal-length}

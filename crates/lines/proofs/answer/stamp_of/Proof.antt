@@ -1,11 +1,11 @@
 -- `stamp_of` meets its contract: the year of a count is a natural number.
-use mathlib.Core.Path.{_≡_, refl, sym, ap, _∙_}
+use mathlib.Core.Path.{ap, _∙_}
 use native.Mathlib.Omega.{arith}
 use borrow.Author.Needs.{needs}
 use lib.IntN.{ℤ, natAbs}
 use mir.Facts.{toZ-ofZ}
 use Rattle.stamps.specs.declared.Stamp.{Stamp}
-use Rattle.civil.specs.Fields.{Fields, fieldsOf}
+use Rattle.civil.specs.Fields.{Fields}
 use Rattle.lines.specs.Answers.{stampOf}
 use Rattle.lines.proofs.Years.{year-is, fits-form, fits-32}
 use Rattle.lines.proofs.answer.stamp_of.Statement.{statement}

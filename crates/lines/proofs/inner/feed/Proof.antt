@@ -1,10 +1,10 @@
 -- `feed` meets its contract. The invariant: the machine goes on, with the bytes that are left, to where it goes with all of them.
 use mathlib.Core.Path.{_≡_, refl, sym, ap, _∙_}
-use Prim.Native.Nat.{ℕ, _+_, _-_, _≤_, _<_}
+use Prim.Native.Nat.{_-_, _≤_}
 use native.Mathlib.Omega.{arith}
 use borrow.Author.Needs.{needs}
 use denote.Ref.{now}
-use lib.ListN.{length, take, drop, getD, length-set, drop-of-length-le}
+use lib.ListN.{length, take, drop, length-set, drop-of-length-le}
 use Rattle.lines.specs.Answers.{answerTo}
 use Rattle.lines.specs.Machine.{machine, run}
 use Rattle.lines.proofs.Outcomes.{answer-short}

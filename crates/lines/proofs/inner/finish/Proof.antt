@@ -1,6 +1,4 @@
 -- `finish` meets its contract: a line of no bytes has not begun.
-use mathlib.Core.Path.{_≡_, _∙_}
-use native.Mathlib.Nat.{zero-add}
 use native.Mathlib.Omega.{arith}
 use borrow.Author.Needs.{needs}
 use denote.Ref.{now}
@@ -27,7 +25,7 @@ returns-2 c =
     let a = test .before .before .before .args in
     let l = take (a .used) (now (a .line)) in
     let long = length-take-le (a .used) (now (a .line)) (omega arith) in
-    rw (begun (answerTo (a .way)) l (omega (arith, test .if1 .left))) (answer .answer .ensures .0 ∙ zero-add _, answer .answer .ensures .1)
+    rw (begun (answerTo (a .way)) l (omega (arith, test .if1 .left))) (omega (arith, answer .answer .ensures .0), answer .answer .ensures .1)
 
 pub finish-spec : {M : Type 1} → statement M
 finish-spec = tie.close (tie.spec returns answer-requires same-length returns-2)

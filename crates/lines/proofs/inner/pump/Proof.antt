@@ -1,14 +1,14 @@
 -- `pump` is safe and ends: each call of `feed` takes a byte at least, and overruns neither the buffer nor the output.
-use mathlib.Core.Path.{_≡_, refl, sym, ap, subst, _∙_}
+use mathlib.Core.Path.{_≡_, refl, sym, subst, _∙_}
 use mathlib.Core.List.{List}
-use Prim.Native.Nat.{ℕ, zero-le, _+_, _-_, _≤_, _<_}
+use Prim.Native.Nat.{ℕ, zero-le, _-_, _≤_, _<_}
 use native.Mathlib.Omega.{arith}
 use borrow.Author.Needs.{needs}
 use denote.Ref.{now}
 use lib.ListN.{length, take, drop, length-drop}
 use lib.Seq.{length-take-le}
 use Rattle.lines.specs.Answers.{answerTo}
-use Rattle.lines.specs.Machine.{Machine, machine, run}
+use Rattle.lines.specs.Machine.{Machine, machine}
 use Rattle.lines.specs.declared.Way.{Way}
 use Rattle.lines.proofs.Outcomes.{answer-short}
 use Rattle.lines.proofs.Sound.{Sound, sound, goes}

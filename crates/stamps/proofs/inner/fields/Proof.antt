@@ -1,5 +1,4 @@
 -- `fields` meets its contract: each field is the value of its bytes.
-use mathlib.Core.Path.{_≡_}
 use borrow.Author.Needs.{needs}
 use Rattle.stamps.proofs.inner.fields.Statement.{statement}
 use Rattle.stamps.proofs.inner.fields.Tie as tie
