@@ -122,7 +122,10 @@ scale! {
     /// let gps = Gps::from_week_tow(2345, DurationParts { seconds: 432_000, nanos: 0 })?;
     /// assert_eq!(gps.as_nanos(), 1_418_688_000_000_000_000);
     /// assert_eq!((gps.week(), gps.tow_seconds()), (2345, 432_000));
-    /// assert_eq!(gps.to_utc()?.to_civil().day, 20);
+    ///
+    /// // midnight of GPS is 18 s before midnight of UTC
+    /// let civil = gps.to_utc()?.to_civil();
+    /// assert_eq!((civil.day, civil.hour, civil.minute, civil.second), (19, 23, 59, 42));
     /// # Ok::<(), plaitgate::Error>(())
     /// ```
     ///
@@ -182,8 +185,8 @@ scale! {
 }
 
 impl Gps {
-    /// The count of a week and a time of that week. Refuses with [`InvalidInput`](crate::Error::InvalidInput) from 604,800 s
-    /// or 1,000,000,000 ns on, and with [`Overflow`](crate::Error::Overflow) above 64 bits.
+    /// The count of a week and a time of that week. Refuses with [`InvalidInput`](crate::Error::InvalidInput) from
+    /// 604,800 s or 1,000,000,000 ns on, and with [`Overflow`](crate::Error::Overflow) above 64 bits.
     pub fn from_week_tow(week: u32, tow: DurationParts) -> Result<Self> {
         sys::gps_from_week_tow(week, tow.seconds, tow.nanos).map(Gps)
     }
@@ -255,13 +258,14 @@ impl Gps {
 }
 
 impl Utc {
-    /// The count of so many seconds since 1970-01-01. Refuses with [`Overflow`](crate::Error::Overflow) below 63,072,000 s,
-    /// which is 1972-01-01, and above 18,509,816,073 s.
+    /// The count of so many seconds since 1970-01-01. Refuses with [`Overflow`](crate::Error::Overflow) below
+    /// 63,072,000 s, which is 1972-01-01, and above 18,509,816,073 s.
     pub fn from_unix_seconds(unix_seconds: i64) -> Result<Self> {
         sys::utc_from_unix_seconds(unix_seconds).map(Utc)
     }
 
-    /// The count of so many nanoseconds since 1970-01-01. Refuses with [`Overflow`](crate::Error::Overflow) before 1972-01-01.
+    /// The count of so many nanoseconds since 1970-01-01. Refuses with [`Overflow`](crate::Error::Overflow) before
+    /// 1972-01-01.
     pub fn from_unix_nanos(unix_nanos: i64) -> Result<Self> {
         sys::utc_from_unix_nanos(unix_nanos).map(Utc)
     }
@@ -306,8 +310,8 @@ impl Utc {
 }
 
 impl Glonass {
-    /// The count of a day and a time of that day. Refuses with [`InvalidInput`](crate::Error::InvalidInput) from 86,400 s or
-    /// 1,000,000,000 ns on, and with [`Overflow`](crate::Error::Overflow) above 64 bits.
+    /// The count of a day and a time of that day. Refuses with [`InvalidInput`](crate::Error::InvalidInput) from 86,400
+    /// s or 1,000,000,000 ns on, and with [`Overflow`](crate::Error::Overflow) above 64 bits.
     pub fn from_day_tod(day: u32, tod: DurationParts) -> Result<Self> {
         sys::glonass_from_day_tod(day, tod.seconds, tod.nanos).map(Glonass)
     }
@@ -348,9 +352,9 @@ impl Glonass {
     }
 }
 
-/// The UTC count of a GPS count, by a table. Refuses with [`Overflow`](crate::Error::Overflow) where the count and 19 s, or
-/// the UTC count, does not fit 64 bits, and with [`OffsetRange`](crate::Error::OffsetRange) where the offset in force is below
-/// −2,147,483,629.
+/// The UTC count of a GPS count, by a table. Refuses with [`Overflow`](crate::Error::Overflow) where the count and 19
+/// s, or the UTC count, does not fit 64 bits, and with [`OffsetRange`](crate::Error::OffsetRange) where the offset in
+/// force is below −2,147,483,629.
 ///
 /// ```
 /// use plaitgate::{gps_to_utc, Gps, LeapSeconds, LeapTable, Utc};
@@ -378,7 +382,8 @@ pub fn utc_to_gps<P: LeapSecondsProvider>(utc: Utc, table: &P) -> Result<Gps> {
     table.utc_to_gps(utc.0).map(Gps)
 }
 
-/// The UTC count of a GLONASS count, 757,371,600 s more. Refuses with [`Overflow`](crate::Error::Overflow) above 64 bits.
+/// The UTC count of a GLONASS count, 757,371,600 s more. Refuses with [`Overflow`](crate::Error::Overflow) above 64
+/// bits.
 pub fn glonass_to_utc(glonass: Glonass) -> Result<Utc> {
     sys::glonass_to_utc(glonass.0).map(Utc)
 }

@@ -259,9 +259,8 @@ pub fn table_from_entries(entries: &[u8]) -> Result<Image> {
 
 pub fn table_try_extend(image: &mut Image, tai_nanos: u64, tai_minus_utc: i32) -> Result<()> {
     // SAFETY: the image is lent for change to this call alone and has as many bytes as are said.
-    let number = unsafe {
-        writing::plaitgate_table_try_extend(image.as_mut_ptr(), image.len(), tai_nanos, tai_minus_utc)
-    };
+    let number =
+        unsafe { writing::plaitgate_table_try_extend(image.as_mut_ptr(), image.len(), tai_nanos, tai_minus_utc) };
     answer(number, ())
 }
 
@@ -279,9 +278,14 @@ mod tests {
 
     /// The functions that the header declares, without the names of their parameters.
     fn declared_in_c() -> BTreeSet<String> {
-        let code: String = HEADER.split("/*").map(|part| part.split_once("*/").map_or(part, |(_, code)| code)).collect();
+        let code: String =
+            HEADER.split("/*").map(|part| part.split_once("*/").map_or(part, |(_, code)| code)).collect();
         let code: Vec<&str> = code.lines().filter(|line| !line.starts_with('#')).collect();
-        code.join(" ").split(';').filter_map(|statement| statement.split_once("uint32_t plaitgate_")).map(in_c).collect()
+        code.join(" ")
+            .split(';')
+            .filter_map(|statement| statement.split_once("uint32_t plaitgate_"))
+            .map(in_c)
+            .collect()
     }
 
     fn in_c((_, declared): (&str, &str)) -> String {

@@ -70,8 +70,8 @@ impl LeapTable {
     }
 
     /// The table of a list of entries. Refuses with [`EmptyTable`](crate::Error::EmptyTable) for none, with
-    /// [`BufferFull`](crate::Error::BufferFull) for more than 64, then for the first entry that cannot follow the one before it,
-    /// as [`try_extend`](LeapTable::try_extend).
+    /// [`BufferFull`](crate::Error::BufferFull) for more than 64, then for the first entry that cannot follow the one
+    /// before it, as [`try_extend`](LeapTable::try_extend).
     ///
     /// ```
     /// use plaitgate::{Gps, LeapEntry, LeapTable, Utc};
@@ -124,11 +124,12 @@ impl LeapTable {
         &self.image
     }
 
-    /// Joins an entry at the end; a table with no entry takes any. Refuses with [`BufferFull`](crate::Error::BufferFull) at 64
-    /// entries, with [`NotStrictlyAscending`](crate::Error::NotStrictlyAscending) where the threshold is not above the last, with
+    /// Joins an entry at the end; a table with no entry takes any. Refuses with
+    /// [`BufferFull`](crate::Error::BufferFull) at 64 entries, with
+    /// [`NotStrictlyAscending`](crate::Error::NotStrictlyAscending) where the threshold is not above the last, with
     /// [`OffsetOverflow`](crate::Error::OffsetOverflow) where the last offset is 2,147,483,647, and with
-    /// [`NonUnitIncrement`](crate::Error::NonUnitIncrement) where the offset is not one more, in this order. On a refusal the
-    /// table is as it was.
+    /// [`NonUnitIncrement`](crate::Error::NonUnitIncrement) where the offset is not one more, in this order. On a
+    /// refusal the table is as it was.
     pub fn try_extend(&mut self, entry: LeapEntry) -> Result<()> {
         sys::table_try_extend(&mut self.image, entry.tai_nanos, entry.tai_minus_utc)
     }

@@ -72,8 +72,7 @@ fn what_may_follow_the_built_in_table() {
 
 #[test]
 fn the_last_civil_time() {
-    let last =
-        CivilDateTime { year: 2556, month: 7, day: 20, hour: 23, minute: 34, second: 33, nanos: 709_551_615 };
+    let last = CivilDateTime { year: 2556, month: 7, day: 20, hour: 23, minute: 34, second: 33, nanos: 709_551_615 };
     assert_eq!(Utc::MAX.to_civil(), last);
     assert_eq!(CivilDateTime::from_utc_nanos(u64::MAX), Ok(last));
     assert_eq!(last.to_utc(), Ok(Utc::MAX));

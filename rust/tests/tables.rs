@@ -1,6 +1,8 @@
 //! Tables: what is taken, what is refused, and that a refusal leaves a table as it was.
 
-use plaitgate::{gps_to_glonass, utc_to_gps, Error, Gps, LeapEntry, LeapSeconds, LeapSecondsProvider, LeapTable, Tai, Utc};
+use plaitgate::{
+    gps_to_glonass, utc_to_gps, Error, Gps, LeapEntry, LeapSeconds, LeapSecondsProvider, LeapTable, Tai, Utc,
+};
 
 /// A table of so many entries, a second apart, with offsets from `first` on.
 fn rising(entries: usize, first: i32) -> Vec<LeapEntry> {
