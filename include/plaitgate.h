@@ -12,13 +12,15 @@
  * Every function takes every input and gives back a number: PLAITGATE_ANSWERED (0), or that of the refusal. It
  * writes each of its results in either case: the answer, or zeros on a refusal. A pointer must lead to a place
  * for its result; two results of one call must not share a place. No function keeps a pointer, allocates memory,
- * or has a state: all may be called from any thread.
+ * or has a state: all may be called from any thread. Leap-second tables are bytes of the caller's own, called
+ * images below; a function that is to change one says what it leaves there on a refusal.
  *
  * Link with libplaitgate.a (`rt staticlib plaitgate` makes it, for x86-64).
  */
 #ifndef PLAITGATE_H
 #define PLAITGATE_H
 
+#include <stddef.h>
 #include <stdint.h>
 
 #ifdef __cplusplus
@@ -323,6 +325,142 @@ uint32_t plaitgate_civil_to_utc(int32_t year, uint8_t month, uint8_t day, uint8_
 /* 1 where a civil time has no part of a second, else 0. Does not refuse. */
 uint32_t plaitgate_civil_is_whole_second(int32_t year, uint8_t month, uint8_t day, uint8_t hour, uint8_t minute,
                                          uint8_t second, uint32_t nanos, uint8_t *yes);
+
+/* ---- GLONASS and UTC ---- */
+
+/* The UTC count of a GLONASS count: 757371600 s more. Refuses by 1 where that is above 64 bits. */
+uint32_t plaitgate_glonass_to_utc(uint64_t glonass, uint64_t *utc);
+
+/* The GLONASS count of a UTC count: 757371600 s less. Refuses by 1 below 757371600 s. */
+uint32_t plaitgate_utc_to_glonass(uint64_t utc, uint64_t *glonass);
+
+/* ---- Conversions by the built-in table ---- */
+
+/*
+ * The built-in table has 19 entries: the offset 19 from the GPS epoch on, and one more from each of the eighteen leap
+ * seconds on, up to that of 2017-01-01.
+ *
+ * During an inserted second, and during the second after it, the UTC count of a GPS count is the same: such a UTC
+ * count is turned into the first of the two GPS counts.
+ */
+
+/* TAI minus UTC in seconds at a TAI count, 19 to 37. Does not refuse. */
+uint32_t plaitgate_builtin_tai_minus_utc_at(uint64_t tai, int32_t *offset);
+
+/* The UTC count of a GPS count. Refuses by 1 where it is above 64 bits, which begins at GPS 18193851291709551616. */
+uint32_t plaitgate_builtin_gps_to_utc(uint64_t gps, uint64_t *utc);
+
+/* The GPS count of a UTC count. Refuses by 1 below UTC 252892800 s, which is GPS 0. */
+uint32_t plaitgate_builtin_utc_to_gps(uint64_t utc, uint64_t *gps);
+
+/* The GPS count of a GLONASS count, by way of UTC. Refuses by 1 where the UTC count is above 64 bits. */
+uint32_t plaitgate_builtin_glonass_to_gps(uint64_t glonass, uint64_t *gps);
+
+/* The GLONASS count of a GPS count, by way of UTC. Refuses by 1 where the UTC count is above 64 bits, or below
+   757371600 s. */
+uint32_t plaitgate_builtin_gps_to_glonass(uint64_t gps, uint64_t *glonass);
+
+/* The GPS count of so many seconds since 1970-01-01, by way of UTC. Refuses by 1 below 315964800 (1980-01-06) and
+   above 18509816073. */
+uint32_t plaitgate_builtin_gps_from_unix_seconds(int64_t seconds, uint64_t *gps);
+
+/* The whole seconds since 1970-01-01 of a GPS count, by way of UTC, rounded down. Refuses as
+   plaitgate_builtin_gps_to_utc. */
+uint32_t plaitgate_builtin_gps_as_unix_seconds(uint64_t gps, int64_t *seconds);
+
+/* ---- Leap-second tables ---- */
+
+/*
+ * A table has up to 64 entries. An entry is a TAI count, its threshold, and TAI minus UTC in seconds from then on, its
+ * offset. A table is valid if it has at most 64 entries, its thresholds rise, and its offsets rise by exactly 1.
+ *
+ * The caller holds a table as an image: PLAITGATE_IMAGE_BYTES bytes of his own, each number low byte first.
+ *   bytes   0 to   7  the number of entries
+ *   bytes   8 to 519  64 thresholds of 8 bytes
+ *   bytes 520 to 775  64 offsets of 4 bytes, in two's complement
+ * The entries are the first so many thresholds and offsets; a table made by a call here has zeros in the others. Any
+ * bytes may be handed in as an image. Where they are not PLAITGATE_IMAGE_BYTES, or hold no valid table, each call that
+ * reads a table refuses by 8, whatever its other inputs.
+ *
+ * An image, like a list of entries, crosses as a pointer and the number of bytes that it leads to. That there are so
+ * many is up to the caller, and so is it that no two of the places handed to one call overlap: images, lists of entries
+ * and places of results. The pointer need not be aligned, and must not be null, for no bytes too. What is said to be an
+ * image as it was has not been written to.
+ */
+#define PLAITGATE_IMAGE_BYTES 776
+
+/* The bytes of one entry in a list of entries: 8 of the threshold, then 4 of the offset, each low byte first. */
+#define PLAITGATE_ENTRY_BYTES 12
+
+/* Writes the image of the table with no entry. Refuses by 8 where there are not PLAITGATE_IMAGE_BYTES bytes, and leaves
+   them as they were; what the bytes hold does not matter. */
+uint32_t plaitgate_table_new(uint8_t *image, size_t image_bytes);
+
+/* Writes the image of the built-in table. Refuses as plaitgate_table_new. */
+uint32_t plaitgate_table_from_builtin(uint8_t *image, size_t image_bytes);
+
+/* Writes the image of the table that has the entries of a list. Refuses by 8 where there are not PLAITGATE_IMAGE_BYTES
+   bytes for the image, and leaves them as they were. Else refuses by 8 where the list is no whole number of entries, by
+   6 where it has none, by 5 where it has more than 64; then for the first entry that cannot follow the one before it:
+   by 3 where its threshold is not above that one's, by 7 where that one's offset is 2147483647, by 4 where its offset
+   is not one more. On these refusals the image is that of the table with no entry. */
+uint32_t plaitgate_table_from_entries(const uint8_t *entries, size_t entries_bytes, uint8_t *image,
+                                      size_t image_bytes);
+
+/* Joins an entry to the table in an image, at its end; a table with no entry takes any. Refuses by 8 where the image
+   holds no valid table, by 5 where it has 64 entries, by 3 where the threshold is not above the last, by 7 where the
+   last offset is 2147483647, by 4 where the offset is not one more than the last, in this order. On a refusal the image
+   is as it was, else it has changed in its number of entries and in the slot behind the last entry. */
+uint32_t plaitgate_table_try_extend(uint8_t *image, size_t image_bytes, uint64_t tai_nanos, int32_t tai_minus_utc);
+
+/* The number of entries, 0 to 64. Refuses by 8. */
+uint32_t plaitgate_table_len(const uint8_t *image, size_t image_bytes, uint64_t *len);
+
+/* 1 where the table has no entry, else 0. Refuses by 8. */
+uint32_t plaitgate_table_is_empty(const uint8_t *image, size_t image_bytes, uint8_t *yes);
+
+/* The entry at a place, from 0 on, and found 1; past the last entry there is nothing, and all three results are 0.
+   Refuses by 8. */
+uint32_t plaitgate_table_entry_at(const uint8_t *image, size_t image_bytes, uint64_t place, uint8_t *found,
+                                  uint64_t *tai_nanos, int32_t *tai_minus_utc);
+
+/* The last threshold, and found 1; where the table has no entry or only one there is nothing, and both results are 0.
+   Refuses by 8. */
+uint32_t plaitgate_table_last_update(const uint8_t *image, size_t image_bytes, uint8_t *found, uint64_t *tai);
+
+/* The last offset, or 19 where the table has no entry. Refuses by 8. */
+uint32_t plaitgate_table_current_tai_minus_utc(const uint8_t *image, size_t image_bytes, int32_t *offset);
+
+/* The offset in force at a TAI count: that of the last entry whose threshold is not above it, the first offset before
+   the first threshold, 19 where the table has no entry. Refuses by 8. */
+uint32_t plaitgate_table_tai_minus_utc_at(const uint8_t *image, size_t image_bytes, uint64_t tai, int32_t *offset);
+
+/* ---- Conversions by a table ---- */
+
+/* The UTC count of a GPS count: by the offset n in force 19 s on, n - 19 s less and 252892800 s more. Refuses by 8
+   where the image holds no valid table, by 1 where the GPS count and 19 s is above 64 bits, by 9 where n is below
+   -2147483629, by 1 where the UTC count is below 0 or above 64 bits, in this order. */
+uint32_t plaitgate_gps_to_utc(uint64_t gps, const uint8_t *image, size_t image_bytes, uint64_t *utc);
+
+/* The GPS count of a UTC count: by the offset n in force, n - 19 s more and 252892800 s less. Where a second was
+   inserted and two GPS counts have the UTC count, it is the first. Refuses by 8 where the image holds no valid table,
+   by 9 where n is below -2147483629, by 1 where the GPS count is below 0 or above 64 bits, in this order. */
+uint32_t plaitgate_utc_to_gps(uint64_t utc, const uint8_t *image, size_t image_bytes, uint64_t *gps);
+
+/* The GPS count of a GLONASS count, by way of UTC. Refuses by 8, then as plaitgate_glonass_to_utc, then as
+   plaitgate_utc_to_gps. */
+uint32_t plaitgate_glonass_to_gps(uint64_t glonass, const uint8_t *image, size_t image_bytes, uint64_t *gps);
+
+/* The GLONASS count of a GPS count, by way of UTC. Refuses as plaitgate_gps_to_utc, then as
+   plaitgate_utc_to_glonass. */
+uint32_t plaitgate_gps_to_glonass(uint64_t gps, const uint8_t *image, size_t image_bytes, uint64_t *glonass);
+
+/* The GPS count of so many seconds since 1970-01-01, by way of UTC. Refuses by 8, then as
+   plaitgate_utc_from_unix_seconds, then as plaitgate_utc_to_gps. */
+uint32_t plaitgate_gps_from_unix_seconds(int64_t seconds, const uint8_t *image, size_t image_bytes, uint64_t *gps);
+
+/* The whole seconds since 1970-01-01 of a GPS count, by way of UTC, rounded down. Refuses as plaitgate_gps_to_utc. */
+uint32_t plaitgate_gps_as_unix_seconds(uint64_t gps, const uint8_t *image, size_t image_bytes, int64_t *seconds);
 
 #ifdef __cplusplus
 }

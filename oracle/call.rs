@@ -29,23 +29,36 @@ pub struct Call {
     pub panic_is: Option<u32>,
     /// What the call is tried on.
     pub trials: fn(&'static [Named]) -> Trials,
+    /// What the recorded list has of it; `None` where it is not in that list.
+    pub recorded: Option<fn(&'static [Named]) -> Trials>,
     pub original: fn(&[i128]) -> Outcome,
+    /// The results on a refusal, where they are not zeros.
+    pub kept: Option<fn(&[i128]) -> Vec<i128>>,
     pub port: fn(&[i128]) -> Written,
 }
 
 impl Call {
-    /// What the port has to write for a crate's outcome: the results, or the refusal and zeros.
-    pub fn due(&self, outcome: Outcome) -> Written {
+    /// What the port has to write for a crate's outcome: the results, or the refusal and zeros, or what is kept.
+    pub fn due(&self, inputs: &[i128], outcome: Outcome) -> Written {
         match outcome {
             Ok(results) => Written { refusal: 0, results, spilled: false },
-            Err(refusal) => Written { refusal, results: vec![0; self.results.len()], spilled: false },
+            Err(refusal) => {
+                let results = self.kept.map_or_else(|| vec![0; self.results.len()], |kept| kept(inputs));
+                Written { refusal, results, spilled: false }
+            }
         }
     }
 }
 
 /// The C declaration of a call whose inputs and results are numbers.
 pub fn prototype(name: &str, inputs: &[Named], results: &[Named]) -> String {
-    let inputs = inputs.iter().map(|(name, kind)| format!("{} {name}", kind.c_name));
+    let inputs: Vec<(&str, &str)> = inputs.iter().map(|(name, kind)| (*name, kind.c_name)).collect();
+    prototype_of(name, &inputs, results)
+}
+
+/// The C declaration of a call, with the names of its inputs and their C types.
+pub fn prototype_of(name: &str, inputs: &[(&str, &str)], results: &[Named]) -> String {
+    let inputs = inputs.iter().map(|(name, c_name)| format!("{c_name} {name}"));
     let results = results.iter().map(|(name, kind)| format!("{} *{name}", kind.c_name));
     let parameters: Vec<String> = inputs.chain(results).collect();
     format!("uint32_t plaitgate_{name}({})", parameters.join(", "))
@@ -84,17 +97,19 @@ macro_rules! call {
         const NAME: &str = concat!($($part),+);
         const INPUTS: &[$crate::call::Named] = &[$((stringify!($input), <$given>::KIND)),*];
         const RESULTS: &[$crate::call::Named] = &[$((stringify!($result), <$written>::KIND)),*];
+        const TRIALS: fn(&'static [$crate::call::Named]) -> $crate::inputs::Trials =
+            [$($trials as fn(&'static [$crate::call::Named]) -> $crate::inputs::Trials,)? $crate::inputs::numbers][0];
         $crate::call::Call {
             name: NAME,
             inputs: INPUTS,
             results: RESULTS,
             prototype: $crate::call::prototype(NAME, INPUTS, RESULTS),
-            panic_is: None$(.or(Some($refusal)))?,
-            trials: $crate::call!(@trials $($trials)?),
+            panic_is: [$(Some($refusal),)? None][0],
+            trials: TRIALS,
+            recorded: Some(TRIALS),
             original,
+            kept: None,
             port,
         }
     }};
-    (@trials) => { $crate::inputs::numbers };
-    (@trials $trials:path) => { $trials };
 }

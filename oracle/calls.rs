@@ -1,10 +1,15 @@
 //! The table of all calls that are compared, an entry each. A call's number in the recorded list is its place
 //! here, from 1: a new call goes to the end.
 
+use crate::by_table;
 use crate::call;
 use crate::call::Call;
 use crate::dates;
-use gnss_time::{CivilDate, CivilDateTime, Duration, DurationParts, Glonass, Gps, Tai, Time, Utc};
+use crate::instants;
+use gnss_time::{
+    glonass_to_gps, glonass_to_utc, gps_to_glonass, gps_to_utc, utc_to_glonass, utc_to_gps, CivilDate, CivilDateTime,
+    Duration, DurationParts, Glonass, Gps, LeapSeconds, LeapSecondsProvider, Tai, Time, Utc,
+};
 
 /// The calls that every scale has.
 macro_rules! scale_calls {
@@ -48,6 +53,8 @@ pub fn calls() -> Vec<Call> {
     calls.extend(duration_calls());
     calls.extend(date_calls());
     calls.extend(civil_calls());
+    calls.extend(builtin_calls());
+    calls.extend(by_table::calls());
     calls
 }
 
@@ -138,5 +145,28 @@ fn civil_calls() -> [Call; 5] {
             (year: i32, month: u8, day: u8, hour: u8, minute: u8, second: u8, nanos: u32) -> (yes: u8),
             CivilDateTime { year, month, day, hour, minute, second, nanos }.is_whole_second(),
             tried on dates::civil_times),
+    ]
+}
+
+/// GLONASS and UTC, and the conversions by the built-in table.
+fn builtin_calls() -> [Call; 9] {
+    [
+        call!("glonass_to_utc", (glonass: u64) -> (utc: u64), glonass_to_utc(at(glonass)),
+            tried on instants::builtin_glonass),
+        call!("utc_to_glonass", (utc: u64) -> (glonass: u64), utc_to_glonass(at(utc)), tried on instants::builtin_utc),
+        call!("builtin_tai_minus_utc_at", (tai: u64) -> (offset: i32), LeapSeconds::builtin().tai_minus_utc_at(at(tai)),
+            tried on instants::builtin_tai),
+        call!("builtin_gps_to_utc", (gps: u64) -> (utc: u64), gps_to_utc(at(gps), LeapSeconds::builtin()),
+            tried on instants::builtin_gps),
+        call!("builtin_utc_to_gps", (utc: u64) -> (gps: u64), utc_to_gps(at(utc), LeapSeconds::builtin()),
+            tried on instants::builtin_utc),
+        call!("builtin_glonass_to_gps", (glonass: u64) -> (gps: u64),
+            glonass_to_gps(at(glonass), LeapSeconds::builtin()), tried on instants::builtin_glonass),
+        call!("builtin_gps_to_glonass", (gps: u64) -> (glonass: u64), gps_to_glonass(at(gps), LeapSeconds::builtin()),
+            tried on instants::builtin_gps),
+        call!("builtin_gps_from_unix_seconds", (seconds: i64) -> (gps: u64),
+            Time::<Gps>::from_unix_seconds(seconds, LeapSeconds::builtin()), tried on instants::builtin_unix),
+        call!("builtin_gps_as_unix_seconds", (gps: u64) -> (seconds: i64),
+            at::<Gps>(gps).as_unix_seconds(LeapSeconds::builtin()), tried on instants::builtin_gps),
     ]
 }

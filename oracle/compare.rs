@@ -41,8 +41,8 @@ pub fn due(call: &Call, inputs: &[i128]) -> Due {
     let outcome = panic::catch_unwind(|| (call.original)(inputs));
     CRATE_RUNS.store(false, Ordering::Relaxed);
     match outcome {
-        Ok(outcome) => Due { written: Some(call.due(outcome)), panicked: false },
-        Err(_) => Due { written: call.panic_is.map(|refusal| call.due(Err(refusal))), panicked: true },
+        Ok(outcome) => Due { written: Some(call.due(inputs, outcome)), panicked: false },
+        Err(_) => Due { written: call.panic_is.map(|refusal| call.due(inputs, Err(refusal))), panicked: true },
     }
 }
 

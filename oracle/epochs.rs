@@ -40,8 +40,9 @@ pub fn differences(calls: &[Call]) -> Vec<String> {
 fn difference(calls: &[Call], length: &Length) -> Option<String> {
     let call = calls.iter().find(|call| call.name == length.call).expect("the table has the call");
     let fields = [length.from, length.to].map(|date| [date.year.into(), date.month.into(), date.day.into()]);
-    let port = (call.port)(&fields.concat());
-    let due = call.due(Ok(vec![length.value.into()]));
+    let inputs = fields.concat();
+    let port = (call.port)(&inputs);
+    let due = call.due(&inputs, Ok(vec![length.value.into()]));
     (port != due)
         .then(|| format!("{} is {} in the crate; {} gives another answer", length.name, length.value, call.name))
 }

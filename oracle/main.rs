@@ -1,14 +1,19 @@
 //! The oracle: the crate gnss-time and the port in one process, compared call by call.
 //! `oracle/run` builds it and runs it.
 
+mod by_table;
 mod call;
 mod calls;
 mod chance;
 mod compare;
 mod dates;
 mod epochs;
+mod examples;
 mod header;
+mod images;
 mod inputs;
+mod instants;
+mod lists;
 mod number;
 mod original;
 mod record;
@@ -33,6 +38,8 @@ fn main() -> ExitCode {
         return ExitCode::from(2);
     };
     compare::silence_the_crate();
+    images::prepare(options.seed);
+    lists::prepare(options.seed);
     let calls = calls::calls();
     if let Some(file) = options.record {
         if let Err(error) = std::fs::write(&file, record::recorded(&calls)) {
@@ -46,6 +53,10 @@ fn main() -> ExitCode {
     let other_lengths = epochs::differences(&calls);
     if !other_lengths.is_empty() {
         return failed(&format!("the epochs lie elsewhere\n{}", other_lengths.join("\n")));
+    }
+    let other_answers = examples::differences(&calls);
+    if !other_answers.is_empty() {
+        return failed(&format!("examples have another answer\n{}", other_answers.join("\n")));
     }
     run(&calls, options.seed, options.count)
 }
@@ -83,6 +94,7 @@ fn run(calls: &[call::Call], seed: u64, count: u64) -> ExitCode {
         return failed(&format!("{differences} differences in {comparisons} comparisons"));
     }
     println!("oracle: {} lengths between epochs, as in the crate", epochs::COUNT);
+    println!("oracle: {} examples, answered alike by both", examples::COUNT);
     println!("oracle: {comparisons} comparisons of {} calls, no difference", calls.len());
     ExitCode::SUCCESS
 }

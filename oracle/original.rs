@@ -2,7 +2,7 @@
 
 use crate::call::Outcome;
 use crate::number::Number;
-use gnss_time::{CivilDate, CivilDateTime, Duration, DurationParts, GnssTimeError, Time, TimeScale};
+use gnss_time::{CivilDate, CivilDateTime, Duration, DurationParts, GnssTimeError, LeapExtendError, Time, TimeScale};
 
 /// An answer of the crate that has an outcome in numbers.
 pub trait Answer {
@@ -11,8 +11,28 @@ pub trait Answer {
 
 const OVERFLOW: u32 = 1;
 const INVALID_INPUT: u32 = 2;
+/// Given for what the crate has no error for: bytes that hold no table that it would take.
+pub const BAD_TABLE: u32 = 8;
 /// An error that the rules have no number for. No call of the port gives it, so it shows as a difference.
 const UNNUMBERED: u32 = u32::MAX;
+
+pub fn refusal_of(error: LeapExtendError) -> u32 {
+    match error {
+        LeapExtendError::NotStrictlyAscending => 3,
+        LeapExtendError::NonUnitIncrement => 4,
+        LeapExtendError::BufferFull => 5,
+        LeapExtendError::EmptyTable => 6,
+        LeapExtendError::OffsetOverflow => 7,
+        _ => UNNUMBERED,
+    }
+}
+
+/// An outcome in numbers already.
+impl Answer for Outcome {
+    fn outcome(self) -> Outcome {
+        self
+    }
+}
 
 impl<A: Answer> Answer for Option<A> {
     fn outcome(self) -> Outcome {

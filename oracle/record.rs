@@ -3,7 +3,9 @@
 use crate::call::{Call, Written};
 use crate::chance::Chance;
 use crate::compare::due;
-use crate::inputs::Group;
+use crate::images::{prepared, RECORDED};
+use crate::inputs::{Group, Trials};
+use gnss_time::LeapEntry;
 use std::collections::{BTreeMap, BTreeSet, HashSet};
 use std::fmt::Write;
 
@@ -18,8 +20,9 @@ const SEED: u64 = 1;
 pub fn recorded(calls: &[Call]) -> String {
     let mut list = legend(calls);
     for (place, call) in calls.iter().enumerate() {
+        let Some(trials) = call.recorded else { continue };
         let mut seen = HashSet::new();
-        for inputs in sample(call) {
+        for inputs in sample(call, trials(call.inputs)) {
             let due = due(call, &inputs).written;
             let due = due.unwrap_or_else(|| panic!("the crate panics in {} on {inputs:?}", call.name));
             if seen.insert(inputs.clone()) {
@@ -36,16 +39,22 @@ fn legend(calls: &[Call]) -> String {
          # A line: the call's number, its inputs, the number of the refusal (0: answered), the results.\n\
          # The calls, with their inputs and results:\n"
     );
-    for (place, call) in calls.iter().enumerate() {
+    for (place, call) in calls.iter().enumerate().filter(|(_, call)| call.recorded.is_some()) {
         let names = |all: &[crate::call::Named]| all.iter().fold(String::new(), |text, (name, _)| text + " " + name);
         let (inputs, results) = (names(call.inputs), names(call.results));
         writeln!(legend, "# {} {}:{inputs} ->{results}", place + 1, call.name).expect("a string takes every text");
     }
+    legend.push_str("# The tables, by their entries:\n");
+    for number in 0..RECORDED {
+        let table = prepared(number as i128).table.as_ref();
+        let entry = |entry: &LeapEntry| format!(" ({}, {})", entry.tai_nanos, entry.tai_minus_utc);
+        let entries = table.map_or(" no table".into(), |table| table.entries().iter().map(entry).collect::<String>());
+        writeln!(legend, "# {number}:{entries}").expect("a string takes every text");
+    }
     legend
 }
 
-fn sample(call: &Call) -> Vec<Vec<i128>> {
-    let trials = (call.trials)(call.inputs);
+fn sample(call: &Call, trials: Trials) -> Vec<Vec<i128>> {
     let mut chance = Chance::of(call.name, SEED);
     let drawn: Vec<Vec<i128>> = (0..RANDOMS).map(|_| (trials.draw)(&mut chance)).collect();
     trials.groups.iter().flat_map(|group| sample_of_group(call, group)).chain(drawn).collect()

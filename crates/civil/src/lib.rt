@@ -10,9 +10,7 @@ ghost use Rattle.civil.specs.Fields.{fieldsIn, fieldsOf, timeOf, onDay, 
 use calendar::CivilDate;
 use calendar::engine;
 use counts::CountAnswer;
-use counts::Duration;
 use counts::sums;
-use counts::sums::Step;
 use counts::units::NANOS_PER_SECOND;
 use refusals::Refusal;
 use scales::utc::Utc;
@@ -27,10 +25,10 @@ const SECONDS_PER_MINUTE: u64 = 60;
 const NANOS_PER_DAY: u64 = SECONDS_PER_DAY * NANOS_PER_SECOND;
 
 // The Unix day of 1972-01-01: two years without a leap day.
-const UTC_EPOCH_DAY: u64 = 730;
+const UTC_EPOCH_DAY: i64 = 730;
 
-// The last day that a count reaches: 2^64 / NANOS_PER_DAY is 213,503.98.
-const LAST_DAY: u64 = 213_503;
+// The last Unix day that a count reaches: 2^64 / NANOS_PER_DAY is 213,503.98.
+const LAST_UNIX_DAY: i64 = UTC_EPOCH_DAY + 213_503;
 
 // A date and a time of day, with any fields.
 pub struct CivilDateTime {
@@ -47,17 +45,13 @@ pub struct CivilDateTime {
 fn count_on_day(unix_day: i64, time: u64) -> CountAnswer
     ensures { λ r. ⌜ countIn r ≡ onDay («unix_day» -ℤ pos utcEpochDay) time ⌝ }
 {
-    match sums::by_sign(Duration(unix_day)) {
-        Step::Forward(day) => {
-            if day < UTC_EPOCH_DAY {
-                CountAnswer::Refused(Refusal::Overflow)
-            } else if day > UTC_EPOCH_DAY + LAST_DAY {
-                CountAnswer::Refused(Refusal::Overflow)
-            } else {
-                sums::plus((day - UTC_EPOCH_DAY) * NANOS_PER_DAY, time)
-            }
-        }
-        Step::Back(_) => CountAnswer::Refused(Refusal::Overflow),
+    if unix_day < UTC_EPOCH_DAY {
+        CountAnswer::Refused(Refusal::Overflow)
+    } else if unix_day > LAST_UNIX_DAY {
+        CountAnswer::Refused(Refusal::Overflow)
+    } else {
+        let day = (unix_day - UTC_EPOCH_DAY) as u64;
+        sums::plus(day * NANOS_PER_DAY, time)
     }
 }
 

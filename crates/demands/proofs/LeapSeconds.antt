@@ -1,5 +1,5 @@
 -- What the theorem needs of a regular list: the leap seconds counted up to a TAI reading.
-use mathlib.Core.Path.{_≡_, ap, _∙_}
+use mathlib.Core.Path.{_≡_}
 use mathlib.Core.Bool.{true, false, _&&_}
 use mathlib.Core.List.{List, [], _∷_}
 use Prim.Native.Nat.{ℕ, suc, _+_, _≤_, _<_}
@@ -12,7 +12,7 @@ use Rattle.tables.specs.Entries.{Entry, threshold, offset, equal, neighbours, v
 use Rattle.tables.proofs.Integers.{equal-true}
 use Rattle.tables.proofs.Neighbours.{both}
 use Rattle.demands.proofs.Passed as p
-use Rattle.demands.proofs.Passed.{Chain, chain, passed, Between}
+use Rattle.demands.proofs.Passed.{chain, passed, Between}
 
 -- k t leap seconds came up to t, one at each threshold after the first
 pub record LeapSeconds (es : List Entry) (k : ℕ → ℕ) : Type 0 where

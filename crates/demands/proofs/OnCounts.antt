@@ -5,7 +5,7 @@ use Prim.Native.Nat.{ℕ, _^_, _<_}
 use native.Mathlib.Omega.{arith}
 use Rattle.refusals.specs.Outcome.{Outcome}
 use Rattle.tables.specs.Entries.{Entry}
-use Rattle.demands.specs.TwoInstants.{Converts, Earliest, TwoInstants}
+use Rattle.demands.specs.TwoInstants.{Converts, TwoInstants}
 
 converts-too : {f f′ : ℕ → Outcome ℕ} → ((g : ℕ) → g < 2 ^ 64 → f g ≡ f′ g) → {g u : ℕ} → Converts f g u → Converts f′ g u
 converts-too same {g} c = record { count = c .count; gives = sym (same g (omega (arith, c .count))) ∙ c .gives }

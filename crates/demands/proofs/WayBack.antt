@@ -1,9 +1,10 @@
--- The way back over a regular list: a third lookup would find no more than the second, so the answer is the earliest count; and two counts that share a UTC count are a leap second apart.
-use mathlib.Core.Path.{_≡_, sym, ap, _∙_, subst}
+-- The way back over a regular list: a third lookup would find what the second found, so the answer is the earliest count; and two counts that share
+-- a UTC count have one threshold between them, so they are one second apart.
+use mathlib.Core.Path.{_≡_, ap, _∙_, subst}
 use mathlib.Core.Logic.{_≢_}
 use mathlib.Core.Bool.{true}
 use mathlib.Core.List.{List}
-use Prim.Native.Nat.{ℕ, suc, _+_, _*_, _-_, _^_, _≤_, _<_}
+use Prim.Native.Nat.{ℕ, _+_, _*_, _-_, _^_, _≤_, _<_}
 use native.Mathlib.Omega.{arith}
 use native.Mathlib.Decide.{decLe, decLt}
 use lib.ListN.{drop}

@@ -2,7 +2,7 @@
 use mathlib.Core.Path.{_≡_}
 use mathlib.Core.List.{List, [], _∷_}
 use Prim.Native.Nat.{ℕ, _+_, _*_}
-use lib.IntN.{ℤ, pos}
+use lib.IntN.{pos}
 use Rattle.refusals.specs.Outcome.{Outcome, answered, refused}
 use Rattle.counts.specs.Units.{second, weekSeconds, ofUnits}
 use Rattle.calendar.specs.Calendar.{on}

@@ -1,69 +1,76 @@
--- The day by its sign: each test leads to a law of the time on that day.
-use mathlib.Core.Path.{_≡_, sym, ap, _∙_}
-use mir.Facts.{toZ-ofZ}
-use Rattle.counts.specs.Exact.{stepOf}
-use Rattle.civil.proofs.Days.{before-1970, before-1972, from-1972, past-the-last}
+-- `count_on_day` meets its contract: its tests say whether a count reaches the day.
+use mathlib.Core.Path.{_≡_, sym, ap, subst, _∙_}
+use mathlib.Core.Bool.{true, false}
+use Prim.Native.Nat.{ℕ, _+_, _-_, _*_}
+use native.Mathlib.Omega.{arith}
 use borrow.Author.Needs.{needs}
+use lib.Dec.{T}
+use lib.IntN.{ℤ, pos, natAbs, _-ℤ_}
+use lib.Signed.{ltZ, nonNeg}
+use mir.Syntax.{w64}
+use mir.Val.{Fits, SFits, toZ, ofZ}
+use mir.Facts.{toZ-ofZ}
+use Rattle.counts.specs.Exact.{countOf}
+use Rattle.counts.proofs.Difference.{of-naturals, not-below}
+use Rattle.calendar.specs.Dates.{utcEpochDay}
+use Rattle.civil.specs.Fields.{onDay}
+use Rattle.civil.proofs.Days.{before-1972, from-1972, past-the-last, Within, within}
 use Rattle.civil.proofs.count_on_day.Statement.{statement}
 use Rattle.civil.proofs.count_on_day.Tie as tie
 
--- what the call of `by_sign` says of the day itself
-signed : (c : tie.After-by-sign) → c .by-sign .result ≡ stepOf (c .before .args .unix-day)
-signed c = c .by-sign .ensures ∙ ap stepOf (toZ-ofZ (c .before .fits .unix-day))
+read : (s : tie.Start) → toZ w64 (ofZ w64 (s .args .unix-day)) ≡ s .args .unix-day
+read s = toZ-ofZ (s .fits .unix-day)
 
-by-sign-requires : tie.Need-by-sign-requires
-by-sign-requires c κs = search needs
+module _ (c : tie.Else2) where
+  reached : Within (c .before .before .args .unix-day)
+  reached =
+      within (c .before .before .args .unix-day) (subst (λ (z : ℤ). ltZ z (pos utcEpochDay) ≡ false) (read (c .before .before)) (c .before .if1 .left))
+      (subst (λ (z : ℤ). ltZ (pos 214233) z ≡ false) (read (c .before .before)) (c .if2 .left))
 
-enum-known-day : tie.Need-enum-known-day
-enum-known-day c = search needs
+  -- the days since 1972-01-01
+  days : toZ w64 (ofZ w64 (c .before .before .args .unix-day)) -ℤ pos 730 ≡ pos (reached .day - 730)
+  days =
+      ap (λ (z : ℤ). z -ℤ pos 730) (read (c .before .before) ∙ reached .is)
+      ∙ of-naturals (reached .day) 730 ∙ not-below (reached .day) 730 (reached .from)
 
-add-if2 : tie.Need-add-if2
-add-if2 c = search needs
+  days-fit : SFits w64 (toZ w64 (ofZ w64 (c .before .before .args .unix-day)) -ℤ pos 730)
+  days-fit = subst (SFits w64) (sym days) (record { sfits = omega (arith, reached .to) })
+
+  held : toZ w64 (ofZ w64 (toZ w64 (ofZ w64 (c .before .before .args .unix-day)) -ℤ pos 730)) ≡ pos (reached .day - 730)
+  held = toZ-ofZ days-fit ∙ days
+
+sub-day : tie.Need-sub-day
+sub-day c = days-fit c
+
+cast-day : tie.Need-cast-day
+cast-day c =
+    subst (λ (z : ℤ). T (nonNeg z) × Fits w64 (natAbs z)) (sym (held c)) (tt, record { fits = omega (arith, reached c .to) })
 
 mul-plus : tie.Need-mul-plus
-mul-plus c = search needs
+mul-plus c =
+    subst (λ (z : ℤ). Fits w64 (natAbs z * 86400000000000)) (sym (held c)) (record { fits = omega (arith, reached c .to) })
 
 plus-requires : tie.Need-plus-requires
 plus-requires c κs = search needs
 
-enum-told : tie.Need-enum-told
-enum-told c = search needs
-
 returns : tie.Need-returns
 returns c =
-    let arm = c .before .before in
-    let called = arm .before .before in
-    before-1972 (called .before .args .unix-day) (called .before .args .time) (sym (arm .day .given .1) ∙ signed called) (c .if1 .taken)
+    before-1972 (c .before .args .unix-day) (c .before .args .time)
+    (subst (λ (z : ℤ). ltZ z (pos utcEpochDay) ≡ true) (read (c .before)) (c .if1 .taken))
 
 returns-2 : tie.Need-returns-2
 returns-2 c =
-    let arm = c .before .before .before in
-    let called = arm .before .before in
-    past-the-last (called .before .args .unix-day) (called .before .args .time) (sym (arm .day .given .1) ∙ signed called) (c .if2 .taken)
+    past-the-last (c .before .before .args .unix-day) (c .before .before .args .time)
+    (subst (λ (z : ℤ). ltZ (pos 214233) z ≡ true) (read (c .before .before)) (c .if2 .taken))
 
 returns-3 : tie.Need-returns-3
 returns-3 c =
-    let arm = c .before .before .before .before in
-    let called = arm .before .before in
-    c .plus .ensures ∙ from-1972 (called .before .args .unix-day) (called .before .args .time)
-    (sym (arm .day .given .1) ∙ signed called) (c .before .before .if1 .left)
-
-returns-4 : tie.Need-returns-4
-returns-4 c =
-    let called = c .before .before in
-    before-1970 (called .before .args .unix-day) (called .before .args .time) (sym (c .enum-told .given .1) ∙ signed called)
+    let start = c .before .before .before in
+    let on = reached (c .before) in
+    c .plus .ensures
+    ∙ ap (λ (z : ℤ). countOf (pos (natAbs z * 86400000000000 + start .args .time))) (held (c .before))
+    ∙ from-1972 (on .day) (start .args .time) (on .from)
+    ∙ ap (λ (z : ℤ). onDay (z -ℤ pos utcEpochDay) (start .args .time)) (sym (on .is))
 
 pub count-on-day-spec : {M : Type 1} → statement M
-count-on-day-spec =
-    tie.close
-    (tie.spec
-    by-sign-requires
-    enum-known-day
-    add-if2
-    mul-plus
-    plus-requires
-    enum-told
-    returns
-    returns-2
-    returns-3
-    returns-4)
+count-on-day-spec = tie.close (tie.spec sub-day cast-day mul-plus plus-requires returns returns-2 returns-3)

@@ -1,0 +1,9 @@
+// Reads UTC dates and times, one a line, and writes each one's GPS count by the built-in table, or why there is none.
+use lines::Way;
+
+fn main() {
+    let mut line = [0u8; 128];
+    let mut block = io::large_buffer();
+    let mut out = io::large_buffer();
+    lines::inner::run(Way::ToGps, &mut line, &mut block, &mut out);
+}

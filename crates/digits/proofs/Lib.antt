@@ -1,0 +1,5 @@
+pub mod Stores
+pub mod Reading
+pub mod Writing
+pub mod WayBack
+pub mod Calls

@@ -1,0 +1,49 @@
+-- `put_two` meets its contract: a byte for the tens, a byte for the ones.
+use native.Mathlib.Omega.{arith}
+use borrow.Author.Needs.{needs}
+use denote.Ref.{now}
+use lib.ListN.{length-set}
+use Rattle.digits.proofs.Writing.{two-digits}
+use Rattle.digits.proofs.inner.put_two.Statement.{statement}
+use Rattle.digits.proofs.inner.put_two.Tie as tie
+
+add-out : tie.Need-add-out
+add-out c = search needs
+
+cast-out : tie.Need-cast-out
+cast-out c = search needs
+
+slice-write-out : tie.Need-slice-write-out
+slice-write-out c = search needs
+
+add-out-2 : tie.Need-add-out-2
+add-out-2 c = search needs
+
+cast-out-2 : tie.Need-cast-out-2
+cast-out-2 c = search needs
+
+add-out-3 : tie.Need-add-out-3
+add-out-3 c = search needs
+
+slice-write-out-2 : tie.Need-slice-write-out-2
+slice-write-out-2 c = simp length-set (omega arith)
+
+same-length : tie.Need-same-length
+same-length c = search needs
+
+returns : tie.Need-returns
+returns c = two-digits (now (c .args .out)) (c .args .at) (c .args .n) (omega arith)
+
+pub put-two-spec : {M : Type 1} → statement M
+put-two-spec =
+    tie.close
+    (tie.spec
+    add-out
+    cast-out
+    slice-write-out
+    add-out-2
+    cast-out-2
+    add-out-3
+    slice-write-out-2
+    same-length
+    returns)

@@ -1,0 +1,67 @@
+-- Bytes in the form: their fields fit, and the form is written and read back as it was.
+use mathlib.Core.Path.{_≡_, refl, sym, ap, _∙_}
+use mathlib.Core.Bool.{true, false, _&&_}
+use mathlib.Core.List.{List, [], _∷_, _++_, append-nil}
+use Prim.Native.Nat.{ℕ, zero, suc, _+_, _^_, _<_, _≤_}
+use native.Mathlib.Nat.{zero-add}
+use native.Mathlib.Omega.{arith}
+use lib.Dec.{leb, lit<}
+use lib.ListN.{length, take, drop, replicate, length-replicate, take-append-drop}
+use lib.Seq.{drop-drop}
+use Rattle.refusals.specs.Outcome.{answered, refused}
+use Rattle.digits.specs.Decimal.{isDigit, allDigits, valueOf, inDigits}
+use Rattle.digits.proofs.WayBack.{first-half, second-half, value-below, digits-of-value, value-of-digits, digits-are-digits}
+use Rattle.stamps.specs.Form.{Fits, field, fieldsAt, first, last, stampRead, within, written}
+use Rattle.stamps.specs.declared.Stamp.{Stamp}
+use Rattle.stamps.proofs.Between.{as-long, rest-within, start-within, join}
+
+-- digits lie between zeros and nines
+digits-between : (k : ℕ) (s : List ℕ) → within (replicate k 48) (replicate k 57) s ≡ true → allDigits s ≡ true
+digits-between zero [] e = refl
+digits-between zero (b ∷ s) e = cc
+digits-between (suc k) [] e = cc
+digits-between (suc k) (b ∷ s) e =
+    let rest = digits-between k s (second-half (isDigit b) (within (replicate k 48) (replicate k 57) s) e) in
+    rw (first-half (isDigit b) (within (replicate k 48) (replicate k 57) s) e) rest
+
+pub between-digits : (s : List ℕ) → allDigits s ≡ true → within (replicate (length s) 48) (replicate (length s) 57) s ≡ true
+between-digits [] e = refl
+between-digits (b ∷ s) e = rw (first-half (isDigit b) (allDigits s) e) (between-digits s (second-half (isDigit b) (allDigits s) e))
+
+-- a field of k digits at a place, with the mark behind it
+module _ (s : List ℕ) (formed : within first last s ≡ true) where
+  pub long : length s ≡ 30
+  long = as-long first last s formed
+
+  module _ (k at : ℕ) (zeros : take k (drop at first) ≡ replicate k 48) (nines : take k (drop at last) ≡ replicate k 57) where
+    part : within (replicate k 48) (replicate k 57) (take k (drop at s)) ≡ true
+    part = rw (zeros, nines) at (start-within k (drop at first) (drop at last) (drop at s) (rest-within at first last s formed))
+
+    part-length : length (take k (drop at s)) ≡ k
+    part-length = as-long (replicate k 48) (replicate k 57) (take k (drop at s)) part ∙ length-replicate k 48
+
+    pub below : valueOf (take k (drop at s)) < 10 ^ k
+    below = rw (zero-add, part-length) at (value-below (take k (drop at s)) 0 0 (digits-between k (take k (drop at s)) part) (lit< tt))
+
+    pub same-digits : inDigits k (valueOf (take k (drop at s))) ≡ take k (drop at s)
+    same-digits = rw part-length at (digits-of-value (take k (drop at s)) (digits-between k (take k (drop at s)) part))
+
+  pub fits : Fits (fieldsAt s)
+  fits =
+      record {
+        year = below 4 0 refl refl;
+        month = below 2 5 refl refl;
+        day = below 2 8 refl refl;
+        hour = below 2 11 refl refl;
+        minute = below 2 14 refl refl;
+        second = below 2 17 refl refl;
+        nanos = below 9 20 refl refl;
+      }
+
+  pub read-as : stampRead s ≡ answered (fieldsAt s)
+  unfolding stampRead
+  read-as = rw formed
+
+pub refused-as : (s : List ℕ) → within first last s ≡ false → stampRead s ≡ refused 10
+unfolding stampRead
+refused-as s e = rw e

@@ -1,0 +1,5 @@
+pub mod Between
+pub mod Fields
+pub mod WayBack
+pub mod Tells
+pub mod Calls

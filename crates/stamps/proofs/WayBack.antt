@@ -1,0 +1,98 @@
+-- The form there and back: what is written is read as it was, and what is read is written as it was.
+use mathlib.Core.Path.{_≡_, refl, sym, ap, _∙_}
+use mathlib.Core.Bool.{true, _&&_}
+use mathlib.Core.List.{List, [], _∷_, _++_, append-assoc, append-nil}
+use Prim.Native.Nat.{ℕ, _+_, _^_, _<_, _≤_}
+use native.Mathlib.Omega.{arith}
+use borrow.Author.Tests.{le-leb, leb-true}
+use lib.Dec.{leb}
+use lib.ListN.{length, take, drop, replicate, length-replicate, take-append-drop, drop-of-length-le}
+use lib.Seq.{drop-drop}
+use Rattle.refusals.specs.Outcome.{answered}
+use Rattle.digits.specs.Decimal.{valueOf, inDigits}
+use Rattle.digits.proofs.Writing.{digits-length}
+use Rattle.digits.proofs.WayBack.{first-half, second-half, value-of-digits, digits-are-digits}
+use Rattle.stamps.specs.Form.{Fits, field, fieldsAt, first, last, stampRead, within, written}
+use Rattle.stamps.specs.declared.Stamp.{Stamp}
+use Rattle.stamps.proofs.Between.{rest-within, join}
+use Rattle.stamps.proofs.Fields.{between-digits, long, same-digits, read-as}
+
+-- a number in k digits and a mark, before bytes that are within
+before : (k n mark : ℕ) (l h s : List ℕ) → within l h s ≡ true
+    → within (replicate k 48 ++ (mark ∷ l)) (replicate k 57 ++ (mark ∷ h)) (inDigits k n ++ (mark ∷ s)) ≡ true
+before k n mark l h s e =
+    let here : leb mark mark ≡ true = le-leb mark mark (omega arith) in
+    let digits = rw digits-length at (between-digits (inDigits k n) (digits-are-digits k n)) in
+    join (replicate k 48) (replicate k 57) (inDigits k n) (mark ∷ l) (mark ∷ h) (mark ∷ s) (simp length-replicate) digits (rw here e)
+
+same-fields : (f g : Stamp) → f .year ≡ g .year → f .month ≡ g .month → f .day ≡ g .day
+    → f .hour ≡ g .hour → f .minute ≡ g .minute → f .second ≡ g .second → f .nanos ≡ g .nanos → f ≡ g
+same-fields f g y mo d h mi s n =
+    let e : of (f .year) (f .month) (f .day) (f .hour) (f .minute) (f .second) (f .nanos) ≡ of (g .year) (g .month) (g .day) (g .hour) (g .minute) (g .second) (g .nanos) = cc in
+    e
+  where
+    of : ℕ → ℕ → ℕ → ℕ → ℕ → ℕ → ℕ → Stamp
+    of y mo d h mi s n = record { year = y; month = mo; day = d; hour = h; minute = mi; second = s; nanos = n }
+
+module _ (f : Stamp) where
+  -- what is written of any fields is in the form
+  pub in-form : within first last (written f) ≡ true
+  in-form =
+      let s = written f in
+      before 4 (f .year) 45 (drop 5 first) (drop 5 last) (drop 5 s)
+      (before 2 (f .month) 45 (drop 8 first) (drop 8 last) (drop 8 s)
+      (before 2 (f .day) 84 (drop 11 first) (drop 11 last) (drop 11 s)
+      (before 2 (f .hour) 58 (drop 14 first) (drop 14 last) (drop 14 s)
+      (before 2 (f .minute) 58 (drop 17 first) (drop 17 last) (drop 17 s)
+      (before 2 (f .second) 46 (drop 20 first) (drop 20 last) (drop 20 s) (before 9 (f .nanos) 90 [] [] [] refl))))))
+
+  fields-back : Fits f → fieldsAt (written f) ≡ f
+  fields-back h =
+      same-fields (fieldsAt (written f)) f
+      (value-of-digits 4 (f .year) (h .year))
+      (value-of-digits 2 (f .month) (h .month))
+      (value-of-digits 2 (f .day) (h .day))
+      (value-of-digits 2 (f .hour) (h .hour))
+      (value-of-digits 2 (f .minute) (h .minute))
+      (value-of-digits 2 (f .second) (h .second))
+      (value-of-digits 9 (f .nanos) (h .nanos))
+
+  -- reading what was written gives the fields
+  pub written-reads : Fits f → stampRead (written f) ≡ answered f
+  written-reads h = read-as (written f) in-form ∙ ap answered (fields-back h)
+
+-- a mark is the one byte from itself up to itself
+the-mark : (mark : ℕ) (l h s : List ℕ) → within (mark ∷ l) (mark ∷ h) s ≡ true → s ≡ mark ∷ drop 1 s
+the-mark mark l h [] e = cc
+the-mark mark l h (b ∷ s) e =
+    let both = first-half (leb mark b && leb b mark) (within l h s) e in
+    let up : mark ≤ b = leb-true mark b (first-half (leb mark b) (leb b mark) both) in
+    let down : b ≤ mark = leb-true b mark (second-half (leb mark b) (leb b mark) both) in
+    ap (λ (x : ℕ). x ∷ s) (omega arith)
+
+module _ (s : List ℕ) (formed : within first last s ≡ true) where
+  -- the bytes from a field on are its number in digits, its mark, and the rest
+  piece : (k at mark : ℕ) (l h : List ℕ) → take k (drop at first) ≡ replicate k 48 → take k (drop at last) ≡ replicate k 57
+      → drop (at + k) first ≡ mark ∷ l → drop (at + k) last ≡ mark ∷ h → drop at s ≡ field k (valueOf (take k (drop at s))) mark ++ drop (at + k + 1) s
+  piece k at mark l h zeros nines low high =
+      let rest = drop (at + k) s in
+      let marked : rest ≡ mark ∷ drop (at + k + 1) s = the-mark mark l h rest (rw (low, high) at (rest-within (at + k) first last s formed)) ∙ ap (λ (t : List ℕ). mark ∷ t) (drop-drop 1 (at + k) s) in
+      sym (take-append-drop k (drop at s))
+      ∙ ap (λ (t : List ℕ). take k (drop at s) ++ t) (drop-drop k at s ∙ marked)
+      ∙ ap (λ (t : List ℕ). t ++ (mark ∷ drop (at + k + 1) s)) (sym (same-digits s formed k at zeros nines))
+      ∙ sym (append-assoc (inDigits k (valueOf (take k (drop at s)))) (mark ∷ []) (drop (at + k + 1) s))
+
+  -- writing what was read gives the bytes
+  pub read-writes : written (fieldsAt s) ≡ s
+  read-writes =
+      let f = fieldsAt s in
+      let end : drop 30 s ≡ [] = drop-of-length-le s {i = 30} (omega (arith, long s formed)) in
+      sym
+      (piece 4 0 45 (drop 5 first) (drop 5 last) refl refl refl refl
+      ∙ ap (λ (t : List ℕ). field 4 (f .year) 45 ++ t) (piece 2 5 45 (drop 8 first) (drop 8 last) refl refl refl refl
+      ∙ ap (λ (t : List ℕ). field 2 (f .month) 45 ++ t) (piece 2 8 84 (drop 11 first) (drop 11 last) refl refl refl refl
+      ∙ ap (λ (t : List ℕ). field 2 (f .day) 84 ++ t) (piece 2 11 58 (drop 14 first) (drop 14 last) refl refl refl refl
+      ∙ ap (λ (t : List ℕ). field 2 (f .hour) 58 ++ t) (piece 2 14 58 (drop 17 first) (drop 17 last) refl refl refl refl
+      ∙ ap (λ (t : List ℕ). field 2 (f .minute) 58 ++ t) (piece 2 17 46 (drop 20 first) (drop 20 last) refl refl refl refl
+      ∙ ap (λ (t : List ℕ). field 2 (f .second) 46 ++ t) (piece 9 20 90 [] [] refl refl refl refl
+      ∙ ap (λ (t : List ℕ). field 9 (f .nanos) 90 ++ t) end)))))))

@@ -1,0 +1,98 @@
+-- `put` meets its contract: seven fields, each from where the one before ends.
+use mathlib.Core.Path.{_≡_, refl}
+use mathlib.Core.List.{List, _++_}
+use Prim.Native.Nat.{ℕ, _+_}
+use native.Mathlib.Omega.{arith}
+use borrow.Author.Needs.{needs}
+use denote.Ref.{now}
+use Rattle.digits.proofs.Stores.{joined}
+use Rattle.stamps.specs.Form.{field}
+use Rattle.stamps.proofs.inner.put.Statement.{statement}
+use Rattle.stamps.proofs.inner.put.Tie as tie
+
+put-four-and-requires : tie.Need-put-four-and-requires
+put-four-and-requires c κs = search needs
+
+add-put-two-and : tie.Need-add-put-two-and
+add-put-two-and c = search needs
+
+put-two-and-requires : tie.Need-put-two-and-requires
+put-two-and-requires c κs = search needs
+
+add-put-two-and-2 : tie.Need-add-put-two-and-2
+add-put-two-and-2 c = search needs
+
+put-two-and-requires-2 : tie.Need-put-two-and-requires-2
+put-two-and-requires-2 c κs = search needs
+
+add-put-two-and-3 : tie.Need-add-put-two-and-3
+add-put-two-and-3 c = search needs
+
+put-two-and-requires-3 : tie.Need-put-two-and-requires-3
+put-two-and-requires-3 c κs = search needs
+
+add-put-two-and-4 : tie.Need-add-put-two-and-4
+add-put-two-and-4 c = search needs
+
+put-two-and-requires-4 : tie.Need-put-two-and-requires-4
+put-two-and-requires-4 c κs = search needs
+
+add-put-two-and-5 : tie.Need-add-put-two-and-5
+add-put-two-and-5 c = search needs
+
+put-two-and-requires-5 : tie.Need-put-two-and-requires-5
+put-two-and-requires-5 c κs = search needs
+
+add-put-nine-and : tie.Need-add-put-nine-and
+add-put-nine-and c = search needs
+
+put-nine-and-requires : tie.Need-put-nine-and-requires
+put-nine-and-requires c κs = search needs
+
+same-length : tie.Need-same-length
+same-length c = search needs
+
+returns : tie.Need-returns
+returns c =
+    let p7 = c .before .before in
+    let p6 = p7 .before .before .before .before in
+    let p5 = p6 .before .before .before .before in
+    let p4 = p5 .before .before .before .before in
+    let p3 = p4 .before .before .before .before in
+    let p2 = p3 .before .before .before .before in
+    let p1 = p2 .before .before .before .before in
+    let a = p1 .before .before .before .args in
+    let out = now (a .out) in
+    let at = a .at in
+    let date₁ = field 4 (a .f .year) 45 in
+    let date₂ = date₁ ++ field 2 (a .f .month) 45 in
+    let date₃ = date₂ ++ field 2 (a .f .day) 84 in
+    let time₁ = date₃ ++ field 2 (a .f .hour) 58 in
+    let time₂ = time₁ ++ field 2 (a .f .minute) 58 in
+    let time₃ = time₂ ++ field 2 (a .f .second) 46 in
+    let after-month = joined out at (at + 5) date₁ (field 2 (a .f .month) 45) (p1 .put-four-and .ensures) refl (p2 .put-two-and .ensures) in
+    let after-day = joined out at (at + 8) date₂ (field 2 (a .f .day) 84) after-month refl (p3 .put-two-and2 .ensures) in
+    let after-hour = joined out at (at + 11) date₃ (field 2 (a .f .hour) 58) after-day refl (p4 .put-two-and3 .ensures) in
+    let after-minute = joined out at (at + 14) time₁ (field 2 (a .f .minute) 58) after-hour refl (p5 .put-two-and4 .ensures) in
+    let after-second = joined out at (at + 17) time₂ (field 2 (a .f .second) 46) after-minute refl (p6 .put-two-and5 .ensures) in
+    joined out at (at + 20) time₃ (field 9 (a .f .nanos) 90) after-second refl (p7 .put-nine-and .ensures)
+
+pub put-spec : {M : Type 1} → statement M
+put-spec =
+    tie.close
+    (tie.spec
+    put-four-and-requires
+    add-put-two-and
+    put-two-and-requires
+    add-put-two-and-2
+    put-two-and-requires-2
+    add-put-two-and-3
+    put-two-and-requires-3
+    add-put-two-and-4
+    put-two-and-requires-4
+    add-put-two-and-5
+    put-two-and-requires-5
+    add-put-nine-and
+    put-nine-and-requires
+    same-length
+    returns)
