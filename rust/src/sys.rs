@@ -2,7 +2,7 @@
 //!
 //! Outside this module there are only numbers, arrays and `Result`s.
 
-// The functions that hand a number back as it came are called by the tests alone: outside they are `const`.
+// Functions whose answer is a constant, or the input as it came, are called by the tests alone: outside they are `const`.
 // In the macros a single result stands in parentheses, as several do.
 #![allow(dead_code, unused_parens)]
 
@@ -333,6 +333,11 @@ mod tests {
             assert_eq!(duration_as_nanos(nanos), Ok(nanos));
         }
         assert_eq!(civil_date_new(i32::MIN, 255, 0), Ok((i32::MIN, 255, 0)));
+    }
+
+    #[test]
+    fn the_table_with_no_entry_is_zeros() {
+        assert_eq!(table_new(), Ok([0; IMAGE_BYTES]));
     }
 
     /// Bytes that no call of this crate lets become a table: here they are handed to every call.

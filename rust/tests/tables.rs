@@ -150,7 +150,7 @@ fn an_offset_that_is_too_low_is_refused_by_9() {
 
 #[test]
 fn any_table_can_be_asked_through_the_trait() {
-    fn latest<P: LeapSecondsProvider>(table: P) -> i32 {
+    fn latest<P: LeapSecondsProvider>(table: &P) -> i32 {
         table.tai_minus_utc_at(Tai::MAX)
     }
     assert_eq!(latest(LeapSeconds::builtin()), 37);
