@@ -1,15 +1,18 @@
-//! What is measured on: counts over the whole of their range.
+//! What is measured on: counts over a range.
+
+use std::ops::Range;
 
 const HOW_MANY: u64 = 1_000_000;
 
-/// Counts from the first to the last, a good five hours apart.
-pub fn rising() -> Vec<u64> {
-    (0..HOW_MANY).map(|place| place * (u64::MAX / HOW_MANY)).collect()
+/// Counts from the first on, as far apart from each other.
+pub fn rising(range: &Range<u64>) -> Vec<u64> {
+    let gap = (range.end - range.start) / HOW_MANY;
+    (0..HOW_MANY).map(|place| range.start + place * gap).collect()
 }
 
 /// The same counts in an order without pattern, the same in every run.
-pub fn shuffled() -> Vec<u64> {
-    let mut counts = rising();
+pub fn shuffled(range: &Range<u64>) -> Vec<u64> {
+    let mut counts = rising(range);
     let mut state: u64 = 1;
     for place in (1..counts.len()).rev() {
         // the generator xorshift64

@@ -4,14 +4,64 @@ mod counts;
 mod measure;
 mod port;
 
-use gnss_time::{CivilDateTime, Time, Utc};
+use gnss_time::{gps_to_utc, utc_to_gps, CivilDateTime, LeapSeconds, RuntimeLeapSeconds, Time, Utc};
 use measure::Bench;
+use std::ops::Range;
+
+const SECOND: u64 = 1_000_000_000;
+/// All counts there are.
+const ALL: Range<u64> = 0..u64::MAX;
+/// GPS counts from 1980 to 2024, so that every entry of the built-in table is met.
+const OF_GPS: Range<u64> = 0..1_400_000_000 * SECOND;
+/// UTC counts of the same years.
+const OF_UTC: Range<u64> = 252_892_800 * SECOND..1_652_892_800 * SECOND;
 
 fn main() {
     let bench = Bench::begin();
-    for (order, counts) in [("rising", counts::rising()), ("shuffled", counts::shuffled())] {
-        let civil: Vec<CivilDateTime> = counts.iter().map(|count| Time::<Utc>::from_nanos(*count).to_civil()).collect();
-        bench.compare("UTC to civil", order, &counts, CivilDateTime::from_utc_nanos, port::from_utc_nanos);
-        bench.compare("civil to UTC", order, &civil, CivilDateTime::to_utc_nanos, port::to_utc_nanos);
+    for order in
+        [Order { name: "rising", counts: counts::rising }, Order { name: "shuffled", counts: counts::shuffled }]
+    {
+        civil(&bench, &order);
+        conversions(&bench, &order);
     }
+}
+
+struct Order {
+    name: &'static str,
+    counts: fn(&Range<u64>) -> Vec<u64>,
+}
+
+fn civil(bench: &Bench, order: &Order) {
+    let counts = (order.counts)(&ALL);
+    let civil: Vec<CivilDateTime> = counts.iter().map(|count| Time::<Utc>::from_nanos(*count).to_civil()).collect();
+    bench.compare("UTC to civil", order.name, &counts, CivilDateTime::from_utc_nanos, port::from_utc_nanos);
+    bench.compare("civil to UTC", order.name, &civil, CivilDateTime::to_utc_nanos, port::to_utc_nanos);
+}
+
+/// By the built-in table, and by a table of the host's with the same entries, which the port checks at each call and
+/// the crate does not.
+fn conversions(bench: &Bench, order: &Order) {
+    let (gps, utc) = ((order.counts)(&OF_GPS), (order.counts)(&OF_UTC));
+    let builtin = LeapSeconds::builtin();
+    bench.compare(
+        "GPS to UTC",
+        order.name,
+        &gps,
+        |n| gps_to_utc(Time::from_nanos(n), builtin),
+        port::builtin_gps_to_utc,
+    );
+    bench.compare(
+        "UTC to GPS",
+        order.name,
+        &utc,
+        |n| utc_to_gps(Time::from_nanos(n), builtin),
+        port::builtin_utc_to_gps,
+    );
+
+    let (table, image) = (RuntimeLeapSeconds::from_builtin(), port::Image::of_builtin());
+    let by_table = |n| gps_to_utc(Time::from_nanos(n), &table);
+    bench.compare("GPS to UTC, image", order.name, &gps, by_table, |n| image.gps_to_utc(n));
+    let by_table = |n| utc_to_gps(Time::from_nanos(n), &table);
+    bench.compare("UTC to GPS, image", order.name, &utc, by_table, |n| image.utc_to_gps(n));
+    bench.alone("image, checked", order.name, &gps, |_| image.len());
 }

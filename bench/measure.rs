@@ -33,7 +33,7 @@ pub struct Bench;
 impl Bench {
     pub fn begin() -> Bench {
         println!("Nanoseconds for a call, best of {ROUNDS} rounds each, in turns.");
-        println!("{:<16} {:<10} {:>8} {:>8} {:>10}", "", "inputs", "crate", "port", "port/crate");
+        println!("{:<18} {:<10} {:>8} {:>8} {:>10}", "", "inputs", "crate", "port", "port/crate");
         Bench
     }
 
@@ -55,7 +55,22 @@ impl Bench {
             of_port.round(inputs, &port);
         }
         let (original, port) = (of_original.nanos_for_each(inputs), of_port.nanos_for_each(inputs));
-        println!("{name:<16} {order:<10} {original:>8.2} {port:>8.2} {:>10.2}", port / original);
+        println!("{name:<18} {order:<10} {original:>8.2} {port:>8.2} {:>10.2}", port / original);
+    }
+
+    /// Measures what only the port does.
+    pub fn alone<Input: Copy, Answer>(
+        &self,
+        name: &str,
+        order: &str,
+        inputs: &[Input],
+        port: impl Fn(Input) -> Answer,
+    ) {
+        let mut best = Best::new(inputs);
+        for _ in 0..ROUNDS {
+            best.round(inputs, &port);
+        }
+        println!("{name:<18} {order:<10} {:>8} {:>8.2}", "", best.nanos_for_each(inputs));
     }
 }
 

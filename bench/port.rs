@@ -1,6 +1,6 @@
 //! The port's calls as a Rust host makes them: structs in and out, and an error for a refusal.
 
-use gnss_time::CivilDateTime;
+use gnss_time::{CivilDateTime, Gps, Time, Utc};
 
 extern "C" {
     fn plaitgate_civil_from_utc_nanos(
@@ -24,6 +24,13 @@ extern "C" {
         nanos: u32,
         count: *mut u64,
     ) -> u32;
+
+    fn plaitgate_builtin_gps_to_utc(gps: u64, utc: *mut u64) -> u32;
+    fn plaitgate_builtin_utc_to_gps(utc: u64, gps: *mut u64) -> u32;
+    fn plaitgate_gps_to_utc(gps: u64, image: *const u8, image_bytes: usize, utc: *mut u64) -> u32;
+    fn plaitgate_utc_to_gps(utc: u64, image: *const u8, image_bytes: usize, gps: *mut u64) -> u32;
+    fn plaitgate_table_from_builtin(image: *mut u8, image_bytes: usize) -> u32;
+    fn plaitgate_table_len(image: *const u8, image_bytes: usize, len: *mut u64) -> u32;
 }
 
 /// The answer, or the number of the refusal.
@@ -64,4 +71,58 @@ pub fn to_utc_nanos(c: CivilDateTime) -> Answer<u64> {
         plaitgate_civil_to_utc_nanos(c.year, c.month, c.day, c.hour, c.minute, c.second, c.nanos, &mut count)
     };
     answer(refusal, count)
+}
+
+#[inline(always)]
+pub fn builtin_gps_to_utc(gps: u64) -> Answer<Time<Utc>> {
+    let mut utc = 0;
+    // SAFETY: the result has a place
+    let refusal = unsafe { plaitgate_builtin_gps_to_utc(gps, &mut utc) };
+    answer(refusal, Time::from_nanos(utc))
+}
+
+#[inline(always)]
+pub fn builtin_utc_to_gps(utc: u64) -> Answer<Time<Gps>> {
+    let mut gps = 0;
+    // SAFETY: the result has a place
+    let refusal = unsafe { plaitgate_builtin_utc_to_gps(utc, &mut gps) };
+    answer(refusal, Time::from_nanos(gps))
+}
+
+/// A table of the host's, which the port reads and checks at each call.
+pub struct Image([u8; 776]);
+
+impl Image {
+    pub fn of_builtin() -> Image {
+        let mut image = Image([0; 776]);
+        // SAFETY: the image is so long
+        let refusal = unsafe { plaitgate_table_from_builtin(image.0.as_mut_ptr(), image.0.len()) };
+        assert_eq!(refusal, 0);
+        image
+    }
+
+    #[inline(always)]
+    pub fn gps_to_utc(&self, gps: u64) -> Answer<Time<Utc>> {
+        let mut utc = 0;
+        // SAFETY: the image is so long, and the result has a place
+        let refusal = unsafe { plaitgate_gps_to_utc(gps, self.0.as_ptr(), self.0.len(), &mut utc) };
+        answer(refusal, Time::from_nanos(utc))
+    }
+
+    #[inline(always)]
+    pub fn utc_to_gps(&self, utc: u64) -> Answer<Time<Gps>> {
+        let mut gps = 0;
+        // SAFETY: the image is so long, and the result has a place
+        let refusal = unsafe { plaitgate_utc_to_gps(utc, self.0.as_ptr(), self.0.len(), &mut gps) };
+        answer(refusal, Time::from_nanos(gps))
+    }
+
+    /// The number of entries: the image is read and checked, and nothing else is done.
+    #[inline(always)]
+    pub fn len(&self) -> Answer<u64> {
+        let mut len = 0;
+        // SAFETY: the image is so long, and the result has a place
+        let refusal = unsafe { plaitgate_table_len(self.0.as_ptr(), self.0.len(), &mut len) };
+        answer(refusal, len)
+    }
 }

@@ -1,5 +1,7 @@
 // What the library answers to a call of the recorded list. The list numbers the calls; its first lines name them.
+use crate::ask_builtin;
 use crate::ask_civil;
+use crate::ask_tables;
 use crate::reply::Question;
 use crate::reply::Reply;
 use plaitgate::durations::plaitgate_duration_as_nanos;
@@ -77,6 +79,8 @@ pub fn ask(call: u64, q: Question) -> Reply {
         57..=63 => unix_and_durations(call - 56, q),
         64..=68 => ask_civil::dates(call - 63, q),
         69..=73 => ask_civil::times(call - 68, q),
+        74..=82 => ask_builtin::builtin(call - 73, q),
+        83..=93 => ask_tables::by_table(call - 82, q),
         _ => Reply::unknown(),
     }
 }

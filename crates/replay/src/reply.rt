@@ -89,6 +89,11 @@ impl Reply {
         Reply::signed_first(number, a, [0, 0, 0, 0, 0, 0])
     }
 
+    // Seconds that the call gives in 32 bits with a sign, as it does a year.
+    pub fn offset(number: u32, seconds: i32) -> Reply {
+        Reply::signed(number, year::wide(seconds))
+    }
+
     // A result with a sign, and six without.
     pub fn signed_first(number: u32, a: i64, rest: [u64; 6]) -> Reply {
         let size = magnitude(a);

@@ -1,0 +1,91 @@
+// What the library answers to the calls by a table. The first input is the table's number.
+use crate::reply::Question;
+use crate::reply::Reply;
+use crate::tables;
+use plaitgate::by_table::plaitgate_glonass_to_gps;
+use plaitgate::by_table::plaitgate_gps_as_unix_seconds;
+use plaitgate::by_table::plaitgate_gps_from_unix_seconds;
+use plaitgate::by_table::plaitgate_gps_to_glonass;
+use plaitgate::by_table::plaitgate_gps_to_utc;
+use plaitgate::by_table::plaitgate_utc_to_gps;
+use plaitgate::leap_tables::plaitgate_table_current_tai_minus_utc;
+use plaitgate::leap_tables::plaitgate_table_is_empty;
+use plaitgate::leap_tables::plaitgate_table_last_update;
+use plaitgate::leap_tables::plaitgate_table_len;
+use plaitgate::leap_tables::plaitgate_table_tai_minus_utc_at;
+
+pub fn by_table(call: u64, q: Question) -> Reply {
+    let mut image = [0u8; 776];
+    tables::put(q.x, &mut image);
+    if call < 7 {
+        conversions(call, q, &image)
+    } else {
+        readers(call - 6, q.y, &image)
+    }
+}
+
+fn conversions(call: u64, q: Question, image: &[u8; 776]) -> Reply {
+    match call {
+        1 => {
+            let mut a: u64 = 1;
+            let number = plaitgate_gps_to_utc(q.y, image, &mut a);
+            Reply::one(number, a)
+        }
+        2 => {
+            let mut a: u64 = 1;
+            let number = plaitgate_utc_to_gps(q.y, image, &mut a);
+            Reply::one(number, a)
+        }
+        3 => {
+            let mut a: u64 = 1;
+            let number = plaitgate_glonass_to_gps(q.y, image, &mut a);
+            Reply::one(number, a)
+        }
+        4 => {
+            let mut a: u64 = 1;
+            let number = plaitgate_gps_to_glonass(q.y, image, &mut a);
+            Reply::one(number, a)
+        }
+        5 => {
+            let mut a: u64 = 1;
+            let number = plaitgate_gps_from_unix_seconds(q.duration(), image, &mut a);
+            Reply::one(number, a)
+        }
+        _ => {
+            let mut a: i64 = 1;
+            let number = plaitgate_gps_as_unix_seconds(q.y, image, &mut a);
+            Reply::signed(number, a)
+        }
+    }
+}
+
+fn readers(call: u64, tai: u64, image: &[u8; 776]) -> Reply {
+    match call {
+        1 => {
+            let mut a: i32 = 1;
+            let number = plaitgate_table_tai_minus_utc_at(image, tai, &mut a);
+            Reply::offset(number, a)
+        }
+        2 => {
+            let mut a: u64 = 1;
+            let number = plaitgate_table_len(image, &mut a);
+            Reply::one(number, a)
+        }
+        3 => {
+            let mut a: u8 = 1;
+            let number = plaitgate_table_is_empty(image, &mut a);
+            Reply::one(number, a as u64)
+        }
+        4 => {
+            let mut a: u8 = 1;
+            let mut b: u64 = 1;
+            let number = plaitgate_table_last_update(image, &mut a, &mut b);
+            Reply::two(number, a as u64, b)
+        }
+        _ => {
+            let mut a: i32 = 1;
+            let number = plaitgate_table_current_tai_minus_utc(image, &mut a);
+            Reply::offset(number, a)
+        }
+    }
+}
