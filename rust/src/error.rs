@@ -40,7 +40,7 @@ pub enum Error {
 }
 
 /// What a call that may refuse gives back.
-pub type Result<T> = core::result::Result<T, Error>;
+pub type Result<T, E = Error> = core::result::Result<T, E>;
 
 impl Error {
     /// The number of the refusal.

@@ -30,21 +30,24 @@
 #![deny(unsafe_op_in_unsafe_fn, unsafe_code)]
 
 mod civil;
+mod convert;
 mod duration;
 mod epoch;
 mod error;
+mod glonass;
+mod gps;
 mod scale;
 #[allow(unsafe_code)]
 mod sys;
 mod table;
+mod utc;
 
 pub use civil::{CivilDate, CivilDateTime};
+pub use convert::{glonass_to_gps, glonass_to_utc, gps_to_glonass, gps_to_utc, utc_to_glonass, utc_to_gps};
 pub use duration::{Duration, DurationParts};
 pub use epoch::*;
 pub use error::{Error, Result};
-pub use scale::{
-    glonass_to_gps, glonass_to_utc, gps_to_glonass, gps_to_utc, utc_to_glonass, utc_to_gps, Glonass, Gps, Tai, Utc,
-};
+pub use scale::{Glonass, Gps, Tai, Utc};
 pub use table::{LeapEntry, LeapSeconds, LeapSecondsProvider, LeapTable, RUNTIME_CAPACITY};
 
 /// gnss-time's name of a count of the scale `S`: `Time<Gps>` is [`Gps`].
