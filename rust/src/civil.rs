@@ -1,0 +1,108 @@
+//! Dates of the Gregorian calendar, and dates with a time of day.
+
+use crate::sys::{self, always};
+use crate::{Result, Utc};
+
+/// A date of the Gregorian calendar, carried on before its introduction. No field is checked: a date that is not in the
+/// calendar has the days that the calendar's formula gives it, so that 31 February 2023 is 3 March.
+///
+/// ```
+/// use plaitgate::{CivilDate, GPS_EPOCH};
+///
+/// assert_eq!(CivilDate::new(1970, 1, 2).days_from_unix(), Ok(1));
+/// assert_eq!(CivilDate::new(2023, 2, 31).days_until(CivilDate::new(2023, 3, 3)), Ok(0));
+/// assert_eq!(GPS_EPOCH.seconds_until(CivilDate::new(1999, 8, 22)), Ok(619_315_200));
+/// ```
+#[derive(Debug, Clone, Copy, PartialEq, Eq, Hash)]
+pub struct CivilDate {
+    pub year: i32,
+    pub month: u8,
+    pub day: u8,
+}
+
+impl CivilDate {
+    /// The date with these fields.
+    #[inline]
+    #[must_use]
+    pub const fn new(year: i32, month: u8, day: u8) -> Self {
+        CivilDate { year, month, day }
+    }
+
+    /// The days from 1970-01-01. Refuses with [`Overflow`](crate::Error::Overflow) for year −2,147,483,648 with a month
+    /// of 0 to 2.
+    pub fn days_from_unix(self) -> Result<i64> {
+        sys::civil_date_days_from_unix(self.year, self.month, self.day)
+    }
+
+    /// The days to another date, negative where it is earlier. Refuses as `days_from_unix`, of either.
+    pub fn days_until(self, other: CivilDate) -> Result<i64> {
+        sys::civil_date_days_until(self.year, self.month, self.day, other.year, other.month, other.day)
+    }
+
+    /// The seconds to another date, 86,400 to a day. Refuses as `days_until`.
+    pub fn seconds_until(self, other: CivilDate) -> Result<i64> {
+        sys::civil_date_seconds_until(self.year, self.month, self.day, other.year, other.month, other.day)
+    }
+
+    /// The nanoseconds to another date. Refuses as `days_until`, and beyond 106,751 days.
+    pub fn nanos_until(self, other: CivilDate) -> Result<i64> {
+        sys::civil_date_nanos_until(self.year, self.month, self.day, other.year, other.month, other.day)
+    }
+}
+
+/// A date and a time of day. No field is checked: hour 24 is the next day's hour 0.
+///
+/// ```
+/// use plaitgate::{CivilDateTime, Error, Utc};
+///
+/// let noon = CivilDateTime { year: 2024, month: 2, day: 29, hour: 12, minute: 0, second: 0, nanos: 0 };
+/// let utc = noon.to_utc()?;
+/// assert_eq!(utc.as_unix_seconds(), 1_709_208_000);
+/// assert_eq!(utc.to_civil(), noon);
+/// assert!(noon.is_whole_second());
+/// assert_eq!(CivilDateTime { year: 1971, ..noon }.to_utc(), Err(Error::Overflow));
+/// # Ok::<(), plaitgate::Error>(())
+/// ```
+#[derive(Debug, Clone, Copy, PartialEq, Eq, Hash)]
+pub struct CivilDateTime {
+    pub year: i32,
+    pub month: u8,
+    pub day: u8,
+    pub hour: u8,
+    pub minute: u8,
+    pub second: u8,
+    pub nanos: u32,
+}
+
+impl CivilDateTime {
+    /// The date and the time of day of so many nanoseconds since 1972-01-01. Every number has one: this is a `Result`
+    /// because it is one in gnss-time.
+    pub fn from_utc_nanos(nanos: u64) -> Result<Self> {
+        sys::civil_from_utc_nanos(nanos).map(Self::of_fields)
+    }
+
+    /// The nanoseconds from 1972-01-01. Refuses with [`Overflow`](crate::Error::Overflow) before that date and above 64
+    /// bits.
+    pub fn to_utc_nanos(self) -> Result<u64> {
+        sys::civil_to_utc_nanos(self.year, self.month, self.day, self.hour, self.minute, self.second, self.nanos)
+    }
+
+    /// The UTC count. Refuses as `to_utc_nanos`.
+    pub fn to_utc(self) -> Result<Utc> {
+        sys::civil_to_utc(self.year, self.month, self.day, self.hour, self.minute, self.second, self.nanos)
+            .map(Utc::from_nanos)
+    }
+
+    /// Whether there is no part of a second.
+    #[must_use]
+    pub fn is_whole_second(&self) -> bool {
+        let CivilDateTime { year, month, day, hour, minute, second, nanos } = *self;
+        always(sys::civil_is_whole_second(year, month, day, hour, minute, second, nanos)) != 0
+    }
+
+    /// The fields in the order in which the library writes them.
+    pub(crate) fn of_fields(fields: (i32, u8, u8, u8, u8, u8, u32)) -> Self {
+        let (year, month, day, hour, minute, second, nanos) = fields;
+        CivilDateTime { year, month, day, hour, minute, second, nanos }
+    }
+}

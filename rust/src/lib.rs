@@ -1,0 +1,70 @@
+//! GPS, UTC, GLONASS and TAI counts into each other, into Unix time, into weeks, days and civil dates, for hosts in
+//! Rust. The work is done by Plaitgate's library, every function of which is proved against its contract; this crate
+//! gives its calls the names and shapes they have in gnss-time, and computes nothing itself.
+//!
+//! Every call takes every input: it answers, or it refuses with an [`Error`], which has a number, or with `None` where
+//! gnss-time has it so. None panics.
+//!
+//! ```
+//! use plaitgate::{DurationParts, Gps};
+//!
+//! // the second that was inserted at the end of 2016, and the one after it, have the same UTC count
+//! let inserted = Gps::from_week_tow(1930, DurationParts { seconds: 17, nanos: 0 })?;
+//! let after = Gps::from_week_tow(1930, DurationParts { seconds: 18, nanos: 0 })?;
+//! let utc = inserted.to_utc()?;
+//! assert_eq!(after.to_utc()?, utc);
+//!
+//! // such a count is turned into the first of the two
+//! assert_eq!(utc.to_gps()?, inserted);
+//! # Ok::<(), plaitgate::Error>(())
+//! ```
+//!
+//! A program that uses gnss-time moves over by its imports: [`Time`], [`GnssTimeError`], [`LeapExtendError`] and
+//! [`RuntimeLeapSeconds`] are here as other names. docs/MOVING.md has the calls side by side.
+//!
+//! The library is `libplaitgate.a`, for x86-64. build.rs looks for it in the folder that the variable
+//! `PLAITGATE_LIB_DIR` names, else in `target/staticlib` beside this crate, where `rt staticlib plaitgate` writes it.
+
+#![cfg_attr(not(any(feature = "std", test)), no_std)]
+#![warn(missing_debug_implementations, unused_must_use)]
+#![deny(unsafe_op_in_unsafe_fn, unsafe_code)]
+
+mod civil;
+mod convert;
+mod duration;
+mod epoch;
+mod error;
+mod glonass;
+mod gps;
+mod scale;
+#[allow(unsafe_code)]
+mod sys;
+mod table;
+mod utc;
+
+pub use civil::{CivilDate, CivilDateTime};
+pub use convert::{glonass_to_gps, glonass_to_utc, gps_to_glonass, gps_to_utc, utc_to_glonass, utc_to_gps};
+pub use duration::{Duration, DurationParts};
+pub use epoch::*;
+pub use error::{Error, Result};
+pub use scale::{Glonass, Gps, Tai, Utc};
+pub use table::{LeapEntry, LeapSeconds, LeapSecondsProvider, LeapTable, RUNTIME_CAPACITY};
+
+/// gnss-time's name of a count of the scale `S`: `Time<Gps>` is [`Gps`].
+///
+/// ```
+/// use plaitgate::{Gps, Time};
+///
+/// let gps: Time<Gps> = Time::<Gps>::from_nanos(5);
+/// assert_eq!(gps, Gps::from_nanos(5));
+/// ```
+pub type Time<S> = S;
+
+/// gnss-time's name of [`Error`].
+pub type GnssTimeError = Error;
+
+/// gnss-time's name of [`Error`], for tables.
+pub type LeapExtendError = Error;
+
+/// gnss-time's name of [`LeapTable`].
+pub type RuntimeLeapSeconds = LeapTable;

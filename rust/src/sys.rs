@@ -1,0 +1,268 @@
+//! The boundary to the library: every function of include/plaitgate.h, and all of the crate's `unsafe`.
+//!
+//! Outside this module there are only numbers, arrays and `Result`s.
+
+// Functions whose answer is a constant, or the input as it came, are called by the tests alone: outside they are `const`.
+// In the macros a single result stands in parentheses, as several do.
+#![allow(dead_code, unused_parens)]
+
+use crate::{Error, Result};
+
+#[cfg(test)]
+mod tests;
+
+/// The bytes of a leap-second table: its length, 64 thresholds and 64 offsets.
+pub type Image = [u8; IMAGE_BYTES];
+pub const IMAGE_BYTES: usize = 776;
+
+/// The bytes of one entry in a list: 8 of the threshold, then 4 of the offset, low byte first.
+pub const ENTRY_BYTES: usize = 12;
+
+/// The answer of a function that the header says does not refuse, for the inputs at hand.
+#[inline]
+pub fn always<T: Default>(answered: Result<T>) -> T {
+    debug_assert!(answered.is_ok(), "the library refused what it is to answer");
+    answered.unwrap_or_default()
+}
+
+#[inline]
+fn answer<T>(number: u32, results: T) -> Result<T> {
+    match number {
+        0 => Ok(results),
+        refusal => Err(Error::from(refusal)),
+    }
+}
+
+/// The name of a C type by that of Rust, for the comparison with the header.
+#[cfg(test)]
+fn c_type(rust: &str) -> &str {
+    match rust {
+        "u8" => "uint8_t",
+        "u32" => "uint32_t",
+        "u64" => "uint64_t",
+        "i32" => "int32_t",
+        "i64" => "int64_t",
+        other => other,
+    }
+}
+
+/// Functions on numbers: `name(inputs) -> (results)` is `plaitgate_name`, with a place for each result.
+macro_rules! of_numbers {
+    ($($name:ident($($input:ident: $given:ty),*) -> ($($result:ident: $written:ty),+);)*) => {
+        $(
+            #[inline]
+            pub fn $name($($input: $given),*) -> Result<($($written),+)> {
+                extern "C" {
+                    #[link_name = concat!("plaitgate_", stringify!($name))]
+                    fn exported($($input: $given,)* $($result: *mut $written),+) -> u32;
+                }
+                $(let mut $result: $written = 0;)+
+                // SAFETY: the types are those of the header (tests::the_header). Each result has a place of its own
+                // that outlives the call; the function takes every number and keeps no pointer.
+                let number = unsafe { exported($($input,)* $(&mut $result),+) };
+                answer(number, ($($result),+))
+            }
+        )*
+        #[cfg(test)]
+        fn declared_of_numbers() -> Vec<String> {
+            vec![$(tests::declaration(stringify!($name),
+                &[$(c_type(stringify!($given)).to_string(),)* $(format!("{} *", c_type(stringify!($written)))),+])),*]
+        }
+    };
+}
+
+/// Functions that read a table: `name(inputs)(image)(inputs) -> (results)`, the image where C has it.
+macro_rules! of_an_image {
+    ($($name:ident($($before:ident: $early:ty),*)(image)($($after:ident: $late:ty),*)
+        -> ($($result:ident: $written:ty),+);)*) => {
+        $(
+            #[inline]
+            pub fn $name($($before: $early,)* image: &Image, $($after: $late),*) -> Result<($($written),+)> {
+                extern "C" {
+                    #[link_name = concat!("plaitgate_", stringify!($name))]
+                    fn exported($($before: $early,)* image: *const u8, image_bytes: usize, $($after: $late,)*
+                        $($result: *mut $written),+) -> u32;
+                }
+                $(let mut $result: $written = 0;)+
+                // SAFETY: the types are those of the header (tests::the_header). The image is lent, so it has its
+                // bytes and no result lies in it; each result has a place of its own. All outlive the call, which
+                // takes any bytes and keeps no pointer.
+                let number = unsafe {
+                    exported($($before,)* image.as_ptr(), image.len(), $($after,)* $(&mut $result),+)
+                };
+                answer(number, ($($result),+))
+            }
+        )*
+        #[cfg(test)]
+        fn declared_of_an_image() -> Vec<String> {
+            vec![$(tests::declaration(stringify!($name), &[
+                $(c_type(stringify!($early)).to_string(),)*
+                "const uint8_t *".to_string(), "size_t".to_string(),
+                $(c_type(stringify!($late)).to_string(),)*
+                $(format!("{} *", c_type(stringify!($written)))),+
+            ])),*]
+        }
+    };
+}
+
+of_numbers! {
+    gps_from_nanos(nanos: u64) -> (count: u64);
+    gps_as_nanos(count: u64) -> (nanos: u64);
+    gps_checked_from_seconds(seconds: u64) -> (count: u64);
+    gps_as_seconds(count: u64) -> (seconds: u64);
+    gps_as_parts(count: u64) -> (seconds: u64, nanos: u32);
+    gps_checked_add(count: u64, duration: i64) -> (sum: u64);
+    gps_checked_sub_duration(count: u64, duration: i64) -> (difference: u64);
+    gps_saturating_add(count: u64, duration: i64) -> (sum: u64);
+    gps_saturating_sub_duration(count: u64, duration: i64) -> (difference: u64);
+    gps_checked_elapsed(count: u64, earlier: u64) -> (duration: i64);
+    gps_limits() -> (epoch: u64, min: u64, max: u64, nanos_per_year: u64);
+    gps_from_week_tow(week: u32, seconds: u64, nanos: u32) -> (count: u64);
+    gps_week(count: u64) -> (week: u32);
+    gps_tow_seconds(count: u64) -> (seconds: u32);
+    gps_sub_second_nanos(count: u64) -> (nanos: u32);
+    gps_to_tai(count: u64) -> (tai: u64);
+    gps_from_tai(tai: u64) -> (count: u64);
+
+    utc_from_nanos(nanos: u64) -> (count: u64);
+    utc_as_nanos(count: u64) -> (nanos: u64);
+    utc_checked_from_seconds(seconds: u64) -> (count: u64);
+    utc_as_seconds(count: u64) -> (seconds: u64);
+    utc_as_parts(count: u64) -> (seconds: u64, nanos: u32);
+    utc_checked_add(count: u64, duration: i64) -> (sum: u64);
+    utc_checked_sub_duration(count: u64, duration: i64) -> (difference: u64);
+    utc_saturating_add(count: u64, duration: i64) -> (sum: u64);
+    utc_saturating_sub_duration(count: u64, duration: i64) -> (difference: u64);
+    utc_checked_elapsed(count: u64, earlier: u64) -> (duration: i64);
+    utc_limits() -> (epoch: u64, min: u64, max: u64, nanos_per_year: u64);
+    utc_from_unix_seconds(seconds: i64) -> (count: u64);
+    utc_from_unix_nanos(nanos: i64) -> (count: u64);
+    utc_as_unix_seconds(count: u64) -> (seconds: i64);
+    utc_as_unix_nanos(count: u64) -> (nanos: i64);
+
+    glonass_from_nanos(nanos: u64) -> (count: u64);
+    glonass_as_nanos(count: u64) -> (nanos: u64);
+    glonass_checked_from_seconds(seconds: u64) -> (count: u64);
+    glonass_as_seconds(count: u64) -> (seconds: u64);
+    glonass_as_parts(count: u64) -> (seconds: u64, nanos: u32);
+    glonass_checked_add(count: u64, duration: i64) -> (sum: u64);
+    glonass_checked_sub_duration(count: u64, duration: i64) -> (difference: u64);
+    glonass_saturating_add(count: u64, duration: i64) -> (sum: u64);
+    glonass_saturating_sub_duration(count: u64, duration: i64) -> (difference: u64);
+    glonass_checked_elapsed(count: u64, earlier: u64) -> (duration: i64);
+    glonass_limits() -> (epoch: u64, min: u64, max: u64, nanos_per_year: u64);
+    glonass_from_day_tod(day: u32, seconds: u64, nanos: u32) -> (count: u64);
+    glonass_day(count: u64) -> (day: u32);
+    glonass_tod_seconds(count: u64) -> (seconds: u32);
+    glonass_sub_second_nanos(count: u64) -> (nanos: u32);
+    glonass_day_of_week(count: u64) -> (weekday: u8);
+    glonass_is_weekend(count: u64) -> (yes: u8);
+
+    tai_from_nanos(nanos: u64) -> (count: u64);
+    tai_as_nanos(count: u64) -> (nanos: u64);
+    tai_checked_from_seconds(seconds: u64) -> (count: u64);
+    tai_as_seconds(count: u64) -> (seconds: u64);
+    tai_as_parts(count: u64) -> (seconds: u64, nanos: u32);
+    tai_checked_add(count: u64, duration: i64) -> (sum: u64);
+    tai_checked_sub_duration(count: u64, duration: i64) -> (difference: u64);
+    tai_saturating_add(count: u64, duration: i64) -> (sum: u64);
+    tai_saturating_sub_duration(count: u64, duration: i64) -> (difference: u64);
+    tai_checked_elapsed(count: u64, earlier: u64) -> (duration: i64);
+    tai_limits() -> (epoch: u64, min: u64, max: u64, nanos_per_year: u64);
+
+    duration_parts_new(seconds: u64, nanos: u32) -> (parts_seconds: u64, parts_nanos: u32);
+    duration_from_nanos(nanos: i64) -> (duration: i64);
+    duration_as_nanos(duration: i64) -> (nanos: i64);
+
+    civil_date_new(year: i32, month: u8, day: u8) -> (date_year: i32, date_month: u8, date_day: u8);
+    civil_date_days_from_unix(year: i32, month: u8, day: u8) -> (days: i64);
+    civil_date_days_until(year: i32, month: u8, day: u8, other_year: i32, other_month: u8, other_day: u8)
+        -> (days: i64);
+    civil_date_seconds_until(year: i32, month: u8, day: u8, other_year: i32, other_month: u8, other_day: u8)
+        -> (seconds: i64);
+    civil_date_nanos_until(year: i32, month: u8, day: u8, other_year: i32, other_month: u8, other_day: u8)
+        -> (nanos: i64);
+
+    civil_from_utc_nanos(count: u64)
+        -> (year: i32, month: u8, day: u8, hour: u8, minute: u8, second: u8, nanos: u32);
+    utc_to_civil(count: u64) -> (year: i32, month: u8, day: u8, hour: u8, minute: u8, second: u8, nanos: u32);
+    civil_to_utc_nanos(year: i32, month: u8, day: u8, hour: u8, minute: u8, second: u8, nanos: u32) -> (count: u64);
+    civil_to_utc(year: i32, month: u8, day: u8, hour: u8, minute: u8, second: u8, nanos: u32) -> (count: u64);
+    civil_is_whole_second(year: i32, month: u8, day: u8, hour: u8, minute: u8, second: u8, nanos: u32) -> (yes: u8);
+
+    glonass_to_utc(glonass: u64) -> (utc: u64);
+    utc_to_glonass(utc: u64) -> (glonass: u64);
+    builtin_tai_minus_utc_at(tai: u64) -> (offset: i32);
+    builtin_gps_to_utc(gps: u64) -> (utc: u64);
+    builtin_utc_to_gps(utc: u64) -> (gps: u64);
+    builtin_glonass_to_gps(glonass: u64) -> (gps: u64);
+    builtin_gps_to_glonass(gps: u64) -> (glonass: u64);
+    builtin_gps_from_unix_seconds(seconds: i64) -> (gps: u64);
+    builtin_gps_as_unix_seconds(gps: u64) -> (seconds: i64);
+}
+
+of_an_image! {
+    table_len()(image)() -> (len: u64);
+    table_is_empty()(image)() -> (yes: u8);
+    table_entry_at()(image)(place: u64) -> (found: u8, tai_nanos: u64, tai_minus_utc: i32);
+    table_last_update()(image)() -> (found: u8, tai: u64);
+    table_current_tai_minus_utc()(image)() -> (offset: i32);
+    table_tai_minus_utc_at()(image)(tai: u64) -> (offset: i32);
+    gps_to_utc(gps: u64)(image)() -> (utc: u64);
+    utc_to_gps(utc: u64)(image)() -> (gps: u64);
+    glonass_to_gps(glonass: u64)(image)() -> (gps: u64);
+    gps_to_glonass(gps: u64)(image)() -> (glonass: u64);
+    gps_from_unix_seconds(seconds: i64)(image)() -> (gps: u64);
+    gps_as_unix_seconds(gps: u64)(image)() -> (seconds: i64);
+}
+
+/// The four functions that write an image.
+mod writing {
+    extern "C" {
+        pub fn plaitgate_table_new(image: *mut u8, image_bytes: usize) -> u32;
+        pub fn plaitgate_table_from_builtin(image: *mut u8, image_bytes: usize) -> u32;
+        pub fn plaitgate_table_from_entries(
+            entries: *const u8,
+            entries_bytes: usize,
+            image: *mut u8,
+            image_bytes: usize,
+        ) -> u32;
+        pub fn plaitgate_table_try_extend(
+            image: *mut u8,
+            image_bytes: usize,
+            tai_nanos: u64,
+            tai_minus_utc: i32,
+        ) -> u32;
+    }
+}
+
+pub fn table_new() -> Result<Image> {
+    let mut image = [0; IMAGE_BYTES];
+    // SAFETY: the image is this function's own, has as many bytes as are said, and outlives the call.
+    let number = unsafe { writing::plaitgate_table_new(image.as_mut_ptr(), image.len()) };
+    answer(number, image)
+}
+
+pub fn table_from_builtin() -> Result<Image> {
+    let mut image = [0; IMAGE_BYTES];
+    // SAFETY: the image is this function's own, has as many bytes as are said, and outlives the call.
+    let number = unsafe { writing::plaitgate_table_from_builtin(image.as_mut_ptr(), image.len()) };
+    answer(number, image)
+}
+
+pub fn table_from_entries(entries: &[u8]) -> Result<Image> {
+    let mut image = [0; IMAGE_BYTES];
+    // SAFETY: the list is lent and the image is this function's own, so that they do not overlap; both have as many
+    // bytes as are said and outlive the call. A slice's pointer is never null.
+    let number = unsafe {
+        writing::plaitgate_table_from_entries(entries.as_ptr(), entries.len(), image.as_mut_ptr(), image.len())
+    };
+    answer(number, image)
+}
+
+pub fn table_try_extend(image: &mut Image, tai_nanos: u64, tai_minus_utc: i32) -> Result<()> {
+    // SAFETY: the image is lent for change to this call alone and has as many bytes as are said.
+    let number =
+        unsafe { writing::plaitgate_table_try_extend(image.as_mut_ptr(), image.len(), tai_nanos, tai_minus_utc) };
+    answer(number, ())
+}

@@ -1,0 +1,98 @@
+//! The boundary is that of the header, and bytes that no table can hold are refused there.
+
+use super::*;
+use std::collections::BTreeSet;
+
+const HEADER: &str = include_str!("../../../include/plaitgate.h");
+
+/// A function as the comparison has it: its name and the C types of its parameters.
+pub fn declaration(name: &str, types: &[String]) -> String {
+    format!("plaitgate_{name}({})", types.join(", "))
+}
+
+/// The functions that the header declares, without the names of their parameters.
+fn declared_in_c() -> BTreeSet<String> {
+    let code: String = HEADER.split("/*").map(|part| part.split_once("*/").map_or(part, |(_, code)| code)).collect();
+    let code: Vec<&str> = code.lines().filter(|line| !line.starts_with('#')).collect();
+    code.join(" ").split(';').filter_map(|statement| statement.split_once("uint32_t plaitgate_")).map(in_c).collect()
+}
+
+fn in_c((_, declared): (&str, &str)) -> String {
+    let (name, parameters) = declared.split_once('(').expect("a function");
+    let type_of = |parameter: &str| {
+        let end = parameter.rfind([' ', '*']).expect("a type and a name");
+        let words: Vec<&str> = parameter[..=end].split_whitespace().collect();
+        words.join(" ")
+    };
+    let types: Vec<String> = parameters.trim_end().trim_end_matches(')').split(',').map(type_of).collect();
+    declaration(name, &types)
+}
+
+fn declared_here() -> BTreeSet<String> {
+    let writing = [
+        ("table_new", "uint8_t *, size_t"),
+        ("table_from_builtin", "uint8_t *, size_t"),
+        ("table_from_entries", "const uint8_t *, size_t, uint8_t *, size_t"),
+        ("table_try_extend", "uint8_t *, size_t, uint64_t, int32_t"),
+    ];
+    let writing = writing.into_iter().map(|(name, types)| declaration(name, &[types.to_string()]));
+    declared_of_numbers().into_iter().chain(declared_of_an_image()).chain(writing).collect()
+}
+
+#[test]
+fn the_header_has_these_functions_with_these_types() {
+    let (c, here) = (declared_in_c(), declared_here());
+    assert!(c.len() > 90, "only {} functions were read in the header", c.len());
+    assert_eq!(c.difference(&here).collect::<Vec<_>>(), Vec::<&String>::new(), "in the header only");
+    assert_eq!(here.difference(&c).collect::<Vec<_>>(), Vec::<&String>::new(), "here only");
+}
+
+#[test]
+fn counts_and_durations_cross_as_they_are() {
+    for count in [0, 1, u64::MAX / 2, u64::MAX] {
+        for same in [gps_from_nanos, gps_as_nanos, utc_from_nanos, utc_as_nanos, glonass_from_nanos] {
+            assert_eq!(same(count), Ok(count));
+        }
+        for same in [glonass_as_nanos, tai_from_nanos, tai_as_nanos] {
+            assert_eq!(same(count), Ok(count));
+        }
+    }
+    for nanos in [i64::MIN, -1, 0, i64::MAX] {
+        assert_eq!(duration_from_nanos(nanos), Ok(nanos));
+        assert_eq!(duration_as_nanos(nanos), Ok(nanos));
+    }
+    assert_eq!(civil_date_new(i32::MIN, 255, 0), Ok((i32::MIN, 255, 0)));
+}
+
+#[test]
+fn the_table_with_no_entry_is_zeros() {
+    assert_eq!(table_new(), Ok([0; IMAGE_BYTES]));
+}
+
+/// Bytes that no call of this crate lets become a table: here they are handed to every call.
+#[test]
+fn a_forged_image_is_refused_by_8_in_every_call_and_is_left_alone() {
+    let mut forged = table_from_builtin().unwrap();
+    forged[0] = 65;
+    let before = forged;
+    let bad = Error::BadTable;
+    assert_eq!(table_len(&forged), Err(bad));
+    assert_eq!(table_is_empty(&forged), Err(bad));
+    assert_eq!(table_entry_at(&forged, 0), Err(bad));
+    assert_eq!(table_last_update(&forged), Err(bad));
+    assert_eq!(table_current_tai_minus_utc(&forged), Err(bad));
+    assert_eq!(table_tai_minus_utc_at(&forged, 0), Err(bad));
+    for convert in [gps_to_utc, utc_to_gps, glonass_to_gps, gps_to_glonass] {
+        assert_eq!(convert(u64::MAX, &forged), Err(bad));
+    }
+    assert_eq!(gps_from_unix_seconds(i64::MIN, &forged), Err(bad));
+    assert_eq!(gps_as_unix_seconds(u64::MAX, &forged), Err(bad));
+    assert_eq!(table_try_extend(&mut forged, u64::MAX, 38), Err(bad));
+    assert_eq!(forged, before);
+}
+
+#[test]
+fn a_list_that_is_no_whole_number_of_entries_is_refused_by_8() {
+    assert_eq!(table_from_entries(&[0; ENTRY_BYTES + 1]), Err(Error::BadTable));
+    assert_eq!(table_from_entries(&[]), Err(Error::EmptyTable));
+}
