@@ -17,6 +17,7 @@ mod lists;
 mod number;
 mod original;
 mod record;
+mod slips;
 
 use std::process::ExitCode;
 
@@ -58,6 +59,10 @@ fn main() -> ExitCode {
     if !other_answers.is_empty() {
         return failed(&format!("examples have another answer\n{}", other_answers.join("\n")));
     }
+    let other_slips = slips::differences();
+    if !other_slips.is_empty() {
+        return failed(&format!("slips answer otherwise\n{}", other_slips.join("\n")));
+    }
     run(&calls, options.seed, options.count)
 }
 
@@ -95,6 +100,7 @@ fn run(calls: &[call::Call], seed: u64, count: u64) -> ExitCode {
     }
     println!("oracle: {} lengths between epochs, as in the crate", epochs::COUNT);
     println!("oracle: {} examples, answered alike by both", examples::COUNT);
+    println!("oracle: {} slips, each wrong where the port is right", slips::COUNT);
     println!("oracle: {comparisons} comparisons of {} calls, no difference", calls.len());
     ExitCode::SUCCESS
 }
