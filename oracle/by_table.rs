@@ -12,9 +12,9 @@ use gnss_time::{
 };
 
 /// An entry for a call that reads a table: `by_table!("name", (inputs before the image) table (inputs after it) ->
-/// (results), what the crate answers, tried on f, recorded on g)`, where the crate's side uses the inputs by name, and the
-/// crate's table as `table`. Without `recorded on` the call is not in the recorded list. Where the image is no table, 8 is
-/// due; where the crate panics, since the offset is out of range, 9.
+/// (results), what the crate answers, tried on f, recorded on g)`, where the crate's side uses the inputs by name, and
+/// the crate's table as `table`. Without `recorded on` the call is not in the recorded list. Where the image is no
+/// table, 8 is due; where the crate panics, since the offset is out of range, 9.
 macro_rules! by_table {
     ($name:literal, ($($before:ident: $first:ty),*) $table:ident ($($after:ident: $then:ty),*)
         -> ($($result:ident: $written:ty),*), $original:expr,

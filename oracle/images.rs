@@ -35,8 +35,8 @@ pub struct Prepared {
     pub table: Option<RuntimeLeapSeconds>,
 }
 
-/// What stands behind the bytes: the offset that would follow the last of `row(0, 1, 19, RUNTIME_CAPACITY)`, so that one
-/// who read past them would find a table of 65 entries there.
+/// What stands behind the bytes: the offset that would follow the last of `row(0, 1, 19, RUNTIME_CAPACITY)`, so that
+/// one who read past them would find a table of 65 entries there.
 const BEHIND: [u8; 4] = (19 + RUNTIME_CAPACITY as i32).to_le_bytes();
 
 impl Prepared {
