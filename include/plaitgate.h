@@ -443,9 +443,9 @@ uint32_t plaitgate_table_tai_minus_utc_at(const uint8_t *image, size_t image_byt
 uint32_t plaitgate_gps_to_utc(uint64_t gps, const uint8_t *image, size_t image_bytes, uint64_t *utc);
 
 /* The GPS count of a UTC count: by an offset n, n - 19 s more and 252892800 s less. To find n, the offset in force is
-   looked up at a, which is UTC - 252892800 s + 19 s, or 0 where that is no count; then n is the offset in force at UTC -
-   252892800 s + so many seconds, or at a where that is no count. Refuses by 8 where the image holds no valid table, by 9
-   where n is below -2147483629, by 1 where the GPS count is below 0 or above 64 bits, in this order. */
+   looked up at a, which is UTC - 252892800 s + 19 s, or 0 where that is no count; then n is the offset in force at
+   UTC - 252892800 s + so many seconds, or at a where that is no count. Refuses by 8 where the image holds no valid
+   table, by 9 where n is below -2147483629, by 1 where the GPS count is below 0 or above 64 bits, in this order. */
 uint32_t plaitgate_utc_to_gps(uint64_t utc, const uint8_t *image, size_t image_bytes, uint64_t *gps);
 
 /* The GPS count of a GLONASS count, by way of UTC. Refuses by 8, then as plaitgate_glonass_to_utc, then as
