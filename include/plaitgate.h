@@ -340,8 +340,8 @@ uint32_t plaitgate_utc_to_glonass(uint64_t utc, uint64_t *glonass);
  * The built-in table has 19 entries: the offset 19 from the GPS epoch on, and one more from each of the eighteen leap
  * seconds on, up to that of 2017-01-01.
  *
- * During an inserted second, and during the second after it, the UTC count of a GPS count is the same: such a UTC
- * count is turned into the first of the two GPS counts.
+ * The UTC counts of an inserted second come again in the second after it: such a UTC count is turned into the first of
+ * its two GPS counts.
  */
 
 /* TAI minus UTC in seconds at a TAI count, 19 to 37. Does not refuse. */
@@ -442,9 +442,10 @@ uint32_t plaitgate_table_tai_minus_utc_at(const uint8_t *image, size_t image_byt
    -2147483629, by 1 where the UTC count is below 0 or above 64 bits, in this order. */
 uint32_t plaitgate_gps_to_utc(uint64_t gps, const uint8_t *image, size_t image_bytes, uint64_t *utc);
 
-/* The GPS count of a UTC count: by the offset n in force, n - 19 s more and 252892800 s less. Where a second was
-   inserted and two GPS counts have the UTC count, it is the first. Refuses by 8 where the image holds no valid table,
-   by 9 where n is below -2147483629, by 1 where the GPS count is below 0 or above 64 bits, in this order. */
+/* The GPS count of a UTC count: by an offset n, n - 19 s more and 252892800 s less. To find n, the offset in force is
+   looked up at a, which is UTC - 252892800 s + 19 s, or 0 where that is no count; then n is the offset in force at
+   UTC - 252892800 s + so many seconds, or at a where that is no count. Refuses by 8 where the image holds no valid
+   table, by 9 where n is below -2147483629, by 1 where the GPS count is below 0 or above 64 bits, in this order. */
 uint32_t plaitgate_utc_to_gps(uint64_t utc, const uint8_t *image, size_t image_bytes, uint64_t *gps);
 
 /* The GPS count of a GLONASS count, by way of UTC. Refuses by 8, then as plaitgate_glonass_to_utc, then as

@@ -12,8 +12,9 @@ use gnss_time::{
 };
 
 /// An entry for a call that reads a table: `by_table!("name", (inputs before the image) table (inputs after it) ->
-/// (results), what the crate answers, tried on f, recorded on g)`, where the last input of the crate's side is `table`.
-/// Where the image is no table, 8 is due; where the crate panics, the offset is out of range, 9.
+/// (results), what the crate answers, tried on f, recorded on g)`, where the crate's side uses the inputs by name, and
+/// the crate's table as `table`. Without `recorded on` the call is not in the recorded list. Where the image is no
+/// table, 8 is due; where the crate panics, since the offset is out of range, 9.
 macro_rules! by_table {
     ($name:literal, ($($before:ident: $first:ty),*) $table:ident ($($after:ident: $then:ty),*)
         -> ($($result:ident: $written:ty),*), $original:expr,
@@ -262,7 +263,7 @@ fn written_over(number: i128, table: &RuntimeLeapSeconds) -> Outcome {
 
 /// Lends a copy of an image for change, and sees what is written there, and beside it.
 fn lend(number: i128, call: impl FnOnce(*mut u8, usize) -> u32) -> Written {
-    // an odd number of bytes before the image, as many as may be written there by mistake behind it
+    // the bytes before the image, an odd number of them, and those behind it, none of which may change
     const BESIDE: [u8; 9] = [0xA5; 9];
     let image = prepared(number).bytes();
     let mut lent = [&BESIDE[..], image, &BESIDE[..]].concat();

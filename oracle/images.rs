@@ -30,18 +30,22 @@ pub const SHORT: i128 = 8;
 
 /// Bytes handed in as an image, and the table that the crate makes of their entries, where it takes them.
 pub struct Prepared {
-    /// The bytes, with one before them, so that they begin at an odd address.
+    /// The bytes, with one before them, so that they begin at an odd address, and some behind them.
     lent: Vec<u8>,
     pub table: Option<RuntimeLeapSeconds>,
 }
 
+/// What stands behind the bytes: the offset that would follow the last of `row(0, 1, 19, RUNTIME_CAPACITY)`, so that
+/// one who read past them would find a table of 65 entries there.
+const BEHIND: [u8; 4] = (19 + RUNTIME_CAPACITY as i32).to_le_bytes();
+
 impl Prepared {
     fn new(bytes: &[u8]) -> Prepared {
-        Prepared { lent: [&[0xA5], bytes].concat(), table: table_in(bytes) }
+        Prepared { lent: [&[0xA5], bytes, &BEHIND].concat(), table: table_in(bytes) }
     }
 
     pub fn bytes(&self) -> &[u8] {
-        &self.lent[1..]
+        &self.lent[1..self.lent.len() - BEHIND.len()]
     }
 
     pub fn entries(&self) -> &[LeapEntry] {
@@ -136,6 +140,7 @@ fn notable_forgeries() -> Vec<Vec<u8>> {
     for len in [20, 64, 65, 66, 255, 256, 1 << 32, (1 << 32) + 19, 1 << 63, u64::MAX] {
         forgeries.extend([with_len(&builtin, len), with_len(&full, len)]);
     }
+    forgeries.push(with_len(&image(&row(0, 1, 19, RUNTIME_CAPACITY)), RUNTIME_CAPACITY as u64 + 1));
     forgeries.push(vec![0xFF; IMAGE_BYTES]);
     for place in [0, 1, 9, 17, 18] {
         let at = LeapSeconds::builtin().entries()[place];
