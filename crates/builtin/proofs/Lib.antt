@@ -1,2 +1,3 @@
 pub mod Regular
+pub mod Counted
 pub mod Calls

@@ -1,1 +1,2 @@
 pub mod Builtin
+pub mod Passed

@@ -1,5 +1,7 @@
 // The built-in table, after tables/leap_seconds.rs: (0, 19), and an entry for each of the eighteen inserted seconds since the
 // GPS epoch (IERS Bulletin C). It is proved valid, so its calls test no table.
+mod lookup;
+
 ghost use mathlib.Core.Path.{_≡_};
 ghost use Rattle.tables.specs.Entries.{offsetAt};
 ghost use Rattle.tables.specs.Slots.{tableOf};
@@ -20,27 +22,27 @@ use tables::inner;
 
 const LEN: usize = 19;
 
-// TAI readings in nanoseconds. Each is (the Unix second of the event − 315,964,800 + the offset that begins) × 10⁹.
+// TAI readings in nanoseconds.
 pub const BUILTIN_THRESHOLDS: [u64; 19] = [
     0,
-    46_828_820_000_000_000,
-    78_364_821_000_000_000,
-    109_900_822_000_000_000,
-    173_059_223_000_000_000,
-    252_028_824_000_000_000,
-    315_187_225_000_000_000,
-    346_723_226_000_000_000,
-    393_984_027_000_000_000,
-    425_520_028_000_000_000,
-    457_056_029_000_000_000,
-    504_489_630_000_000_000,
-    551_750_431_000_000_000,
-    599_184_032_000_000_000,
-    820_108_833_000_000_000,
-    914_803_234_000_000_000,
-    1_025_136_035_000_000_000,
-    1_119_744_036_000_000_000,
-    1_167_264_037_000_000_000,
+    lookup::JULY_1981,
+    lookup::JULY_1982,
+    lookup::JULY_1983,
+    lookup::JULY_1985,
+    lookup::JANUARY_1988,
+    lookup::JANUARY_1990,
+    lookup::JANUARY_1991,
+    lookup::JULY_1992,
+    lookup::JULY_1993,
+    lookup::JULY_1994,
+    lookup::JANUARY_1996,
+    lookup::JULY_1997,
+    lookup::JANUARY_1999,
+    lookup::JANUARY_2006,
+    lookup::JANUARY_2009,
+    lookup::JULY_2012,
+    lookup::JULY_2015,
+    lookup::JANUARY_2017,
 ];
 
 // TAI minus UTC in seconds, from each threshold on.
@@ -79,26 +81,20 @@ pub fn from_builtin() -> LeapTable
 pub fn tai_minus_utc_at(tai: Tai) -> i32
     ensures { λ r. ⌜ r ≡ offsetAt builtin (tai .0) ⌝ }
 {
-    let thresholds = BUILTIN_THRESHOLDS;
-    let offsets = BUILTIN_OFFSETS;
-    inner::offset_at(&thresholds, &offsets, LEN, tai.0)
+    lookup::offset_at(tai.0)
 }
 
 pub fn gps_to_utc(gps: Gps) -> UtcAnswer
     ensures { λ r. ⌜ utcIn r ≡ gpsToUtc builtin (gps .0) ⌝ }
 {
-    let thresholds = BUILTIN_THRESHOLDS;
-    let offsets = BUILTIN_OFFSETS;
-    UtcAnswer::of(conversions::inner::gps_to_utc(&thresholds, &offsets, LEN, gps.0))
+    UtcAnswer::of(lookup::gps_to_utc(gps.0))
 }
 
 // Where a UTC count repeats it is the first of two.
 pub fn utc_to_gps(utc: Utc) -> GpsAnswer
     ensures { λ r. ⌜ gpsIn r ≡ utcToGps builtin (utc .0) ⌝ }
 {
-    let thresholds = BUILTIN_THRESHOLDS;
-    let offsets = BUILTIN_OFFSETS;
-    GpsAnswer::of(conversions::inner::utc_to_gps(&thresholds, &offsets, LEN, utc.0))
+    GpsAnswer::of(lookup::utc_to_gps(utc.0))
 }
 
 pub fn glonass_to_gps(glonass: Glonass) -> GpsAnswer

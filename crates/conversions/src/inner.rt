@@ -27,7 +27,7 @@ const GPS_EPOCH_FROM_UTC_EPOCH_NS: u64 = 252_892_800 * units::NANOS_PER_SECOND;
 const GLONASS_EPOCH_FROM_UTC_EPOCH_NS: u64 = 757_371_600 * units::NANOS_PER_SECOND;
 
 // TAI is 19 s ahead of GPS
-const TAI_MINUS_GPS_NS: u64 = 19 * units::NANOS_PER_SECOND;
+pub const TAI_MINUS_GPS_NS: u64 = 19 * units::NANOS_PER_SECOND;
 
 // Below it the offset less 19 does not fit 32 bits, and the offset is refused.
 const LEAST_OFFSET: i32 = -2_147_483_629;
@@ -55,7 +55,7 @@ fn utc_less_gps(offset: i32) -> i64
 }
 
 // The UTC count of a GPS count, at an offset.
-fn utc_by(offset: i32, gps: u64) -> CountAnswer
+pub fn utc_by(offset: i32, gps: u64) -> CountAnswer
     ensures { λ r. ⌜ countIn r ≡ utcBy offset gps ⌝ }
 {
     if offset < LEAST_OFFSET {
@@ -65,7 +65,7 @@ fn utc_by(offset: i32, gps: u64) -> CountAnswer
 }
 
 // The GPS count of a UTC count, at an offset.
-fn gps_by(offset: i32, utc: u64) -> CountAnswer
+pub fn gps_by(offset: i32, utc: u64) -> CountAnswer
     ensures { λ r. ⌜ countIn r ≡ gpsBy offset utc ⌝ }
 {
     if offset < LEAST_OFFSET {
@@ -85,7 +85,7 @@ fn count_or(answer: CountAnswer, other: u64) -> u64
 }
 
 // The TAI reading at which the first offset of a UTC count is looked up.
-fn first_reading(utc: u64) -> u64
+pub fn first_reading(utc: u64) -> u64
     ensures { λ r. ⌜ r ≡ firstReading utc ⌝ }
 {
     count_or(
@@ -95,7 +95,7 @@ fn first_reading(utc: u64) -> u64
 }
 
 // The TAI reading at which the offset of a UTC count is looked up, by the first offset.
-fn second_reading(utc: u64, offset: i32, first: u64) -> u64
+pub fn second_reading(utc: u64, offset: i32, first: u64) -> u64
     ensures { λ r. ⌜ r ≡ secondReading utc offset first ⌝ }
 {
     count_or(sums::earlier(utc, Duration(utc_less_tai(offset))), first)

@@ -11,8 +11,8 @@ use lib.IntN.{pos}
 use Rattle.tables.specs.Entries.{Entry, threshold, offset, equal, neighbours, valid, aDayOn, begins, regular, day, lastUpTo, offsetAt}
 use Rattle.tables.proofs.Integers.{equal-true}
 use Rattle.tables.proofs.Neighbours.{both}
-use Rattle.demands.proofs.Passed as p
-use Rattle.demands.proofs.Passed.{chain, passed, Between}
+use Rattle.tables.proofs.Passed as p
+use Rattle.tables.proofs.Passed.{chain, passed, Between}
 
 -- k t leap seconds came up to t, one at each threshold after the first
 pub record LeapSeconds (es : List Entry) (k : ℕ → ℕ) : Type 0 where

@@ -1,4 +1,3 @@
-mod Passed
 mod LeapSeconds
 mod OnNaturals
 mod WayBack

@@ -13,7 +13,7 @@ use Rattle.counts.specs.Units.{second}
 use Rattle.tables.specs.Entries.{Entry, regular}
 use Rattle.conversions.specs.Conversions.{E, gpsToUtc, utcToGps}
 use Rattle.demands.specs.TwoInstants.{Converts, Earliest, Refused, RefusedExactly, AnswersTheEarliest, SharedExactly, AtMostTwo, TwoInstants}
-use Rattle.demands.proofs.Passed.{Between}
+use Rattle.tables.proofs.Passed.{Between}
 use Rattle.demands.proofs.LeapSeconds.{LeapSeconds, leaps, counted}
 use Rattle.demands.proofs.OnNaturals.{tai, Reads, to-utc, from-gps, before-E, from-E, a, b}
 

@@ -13,5 +13,6 @@ pub mod Tested
 pub mod Extensions
 pub mod Buildings
 pub mod Lookups
+pub mod Passed
 pub mod Tells
 pub mod Calls

@@ -1,32 +1,17 @@
--- `gps_to_utc` meets its contract: its two constants are the list of the dates, by computation, and that list is valid.
-use mathlib.Core.Path.{refl, _∙_}
+-- `gps_to_utc` meets its contract: the plain answer, on its scale.
+use mathlib.Core.Path.{_∙_}
 use borrow.Author.Needs.{needs}
-use Rattle.calendar.specs.Formula.{formula, era, yoe, doy, doe}
-use Rattle.tables.specs.Entries.{neighbours}
-use Rattle.tables.specs.Slots.{paired}
-use Rattle.builtin.specs.Builtin.{builtin, events, thresholdOf, entriesFrom}
 use Rattle.builtin.proofs.gps_to_utc.Statement.{statement}
 use Rattle.builtin.proofs.gps_to_utc.Tie as tie
 
-slice-aggregate-gps-to-utc : tie.Need-slice-aggregate-gps-to-utc
-slice-aggregate-gps-to-utc c = search needs
-
-slice-aggregate-gps-to-utc-2 : tie.Need-slice-aggregate-gps-to-utc-2
-slice-aggregate-gps-to-utc-2 c = search needs
-
 gps-to-utc-requires : tie.Need-gps-to-utc-requires
-unfolding neighbours paired
-gps-to-utc-requires c κs = (search needs, (search needs, refl))
+gps-to-utc-requires c κs = search needs
 
 of-requires : tie.Need-of-requires
 of-requires c κs = search needs
 
 returns : tie.Need-returns
-unfolding builtin events thresholdOf entriesFrom formula era yoe doy doe paired
-returns c =
-    c .of .ensures ∙ c .before .gps-to-utc .ensures
+returns c = c .of .ensures ∙ c .before .gps-to-utc .ensures
 
 pub gps-to-utc-spec : {M : Type 1} → statement M
-gps-to-utc-spec =
-    tie.close
-    (tie.spec slice-aggregate-gps-to-utc slice-aggregate-gps-to-utc-2 gps-to-utc-requires of-requires returns)
+gps-to-utc-spec = tie.close (tie.spec gps-to-utc-requires of-requires returns)

@@ -28,7 +28,7 @@ chain p (e ∷ es) f d =
     (leb-true (threshold p + day) (threshold e) (d2 .0), equal-true _ _ more, chain e es (f2 .1) (d2 .1))
 
 -- how many thresholds are at most t: `1 - (x - t)` is 1 if x ≤ t, and else 0
-pub passed : List Entry → ℕ → ℕ
+unfoldable pub passed : List Entry → ℕ → ℕ
 passed [] t = 0
 passed (e ∷ es) t = 1 - (threshold e - t) + passed es t
 

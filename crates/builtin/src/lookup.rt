@@ -1,0 +1,114 @@
+// The offset in force by the built-in table, and the conversions by it, on plain counts. The offset is 19 and one more
+// for each event at or before the reading: eighteen tests, which have no branch and read no table.
+ghost use mathlib.Core.Path.{_≡_};
+ghost use mathlib.Core.Bool.{cond};
+ghost use Prim.Native.Nat.{_≤_};
+ghost use lib.Dec.{leb};
+ghost use Rattle.counts.specs.Answers.{countIn};
+ghost use Rattle.tables.specs.Entries.{offsetAt};
+ghost use Rattle.conversions.specs.Conversions.{gpsToUtc, utcToGps};
+ghost use Rattle.builtin.specs.Builtin.{builtin};
+ghost use Rattle.builtin.specs.Passed.{passed, eventsTo1993, eventsFrom1994};
+use conversions::inner;
+use counts::CountAnswer;
+use counts::sums;
+
+// The threshold of each event: (its Unix second − 315,964,800 + the offset that begins) × 10⁹.
+pub const JULY_1981: u64 = 46_828_820_000_000_000;
+
+pub const JULY_1982: u64 = 78_364_821_000_000_000;
+
+pub const JULY_1983: u64 = 109_900_822_000_000_000;
+
+pub const JULY_1985: u64 = 173_059_223_000_000_000;
+
+pub const JANUARY_1988: u64 = 252_028_824_000_000_000;
+
+pub const JANUARY_1990: u64 = 315_187_225_000_000_000;
+
+pub const JANUARY_1991: u64 = 346_723_226_000_000_000;
+
+pub const JULY_1992: u64 = 393_984_027_000_000_000;
+
+pub const JULY_1993: u64 = 425_520_028_000_000_000;
+
+pub const JULY_1994: u64 = 457_056_029_000_000_000;
+
+pub const JANUARY_1996: u64 = 504_489_630_000_000_000;
+
+pub const JULY_1997: u64 = 551_750_431_000_000_000;
+
+pub const JANUARY_1999: u64 = 599_184_032_000_000_000;
+
+pub const JANUARY_2006: u64 = 820_108_833_000_000_000;
+
+pub const JANUARY_2009: u64 = 914_803_234_000_000_000;
+
+pub const JULY_2012: u64 = 1_025_136_035_000_000_000;
+
+pub const JULY_2015: u64 = 1_119_744_036_000_000_000;
+
+pub const JANUARY_2017: u64 = 1_167_264_037_000_000_000;
+
+fn reached(threshold: u64, tai: u64) -> u64
+    ensures is { λ r. ⌜ r ≡ cond (leb threshold tai) 1 0 ⌝ }
+    ensures few { λ r. ⌜ r ≤ 1 ⌝ }
+{
+    if threshold <= tai { 1 } else { 0 }
+}
+
+// How many of the first nine events are at or before a reading.
+fn events_to_1993(tai: u64) -> u64
+    ensures is { λ r. ⌜ r ≡ passed tai eventsTo1993 ⌝ }
+    ensures few { λ r. ⌜ r ≤ 9 ⌝ }
+{
+    reached(JULY_1981, tai)
+        + reached(JULY_1982, tai)
+        + reached(JULY_1983, tai)
+        + reached(JULY_1985, tai)
+        + reached(JANUARY_1988, tai)
+        + reached(JANUARY_1990, tai)
+        + reached(JANUARY_1991, tai)
+        + reached(JULY_1992, tai)
+        + reached(JULY_1993, tai)
+}
+
+// How many of the last nine.
+fn events_from_1994(tai: u64) -> u64
+    ensures is { λ r. ⌜ r ≡ passed tai eventsFrom1994 ⌝ }
+    ensures few { λ r. ⌜ r ≤ 9 ⌝ }
+{
+    reached(JULY_1994, tai)
+        + reached(JANUARY_1996, tai)
+        + reached(JULY_1997, tai)
+        + reached(JANUARY_1999, tai)
+        + reached(JANUARY_2006, tai)
+        + reached(JANUARY_2009, tai)
+        + reached(JULY_2012, tai)
+        + reached(JULY_2015, tai)
+        + reached(JANUARY_2017, tai)
+}
+
+pub fn offset_at(tai: u64) -> i32
+    ensures { λ r. ⌜ r ≡ offsetAt builtin tai ⌝ }
+{
+    (19 + events_to_1993(tai) + events_from_1994(tai)) as i32
+}
+
+pub fn gps_to_utc(gps: u64) -> CountAnswer
+    ensures { λ r. ⌜ countIn r ≡ gpsToUtc builtin gps ⌝ }
+{
+    match sums::plus(gps, inner::TAI_MINUS_GPS_NS) {
+        CountAnswer::Count(tai) => inner::utc_by(offset_at(tai), gps),
+        CountAnswer::Refused(why) => CountAnswer::Refused(why),
+    }
+}
+
+pub fn utc_to_gps(utc: u64) -> CountAnswer
+    ensures { λ r. ⌜ countIn r ≡ utcToGps builtin utc ⌝ }
+{
+    let a = inner::first_reading(utc);
+    let n1 = offset_at(a);
+    let b = inner::second_reading(utc, n1, a);
+    inner::gps_by(offset_at(b), utc)
+}
