@@ -1,6 +1,6 @@
 //! Two ways to the same answers, timed in turns.
 
-use gnss_time::CivilDateTime;
+use gnss_time::{CivilDateTime, Time, TimeScale};
 use std::fmt::Debug;
 use std::hint::black_box;
 use std::time::{Duration, Instant};
@@ -18,6 +18,12 @@ pub trait Used {
 impl Used for u64 {
     fn used(self) -> u64 {
         self
+    }
+}
+
+impl<S: TimeScale> Used for Time<S> {
+    fn used(self) -> u64 {
+        self.as_nanos()
     }
 }
 
@@ -59,12 +65,12 @@ impl Bench {
     }
 
     /// Measures what only the port does.
-    pub fn alone<Input: Copy, Answer>(
+    pub fn alone<Input: Copy, Answer: Used, Refusal>(
         &self,
         name: &str,
         order: &str,
         inputs: &[Input],
-        port: impl Fn(Input) -> Answer,
+        port: impl Fn(Input) -> Result<Answer, Refusal>,
     ) {
         let mut best = Best::new(inputs);
         for _ in 0..ROUNDS {
