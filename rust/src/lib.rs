@@ -22,8 +22,8 @@
 //! A program that uses gnss-time moves over by its imports: [`Time`], [`GnssTimeError`], [`LeapExtendError`] and
 //! [`RuntimeLeapSeconds`] are here as other names. docs/MOVING.md has the calls side by side.
 //!
-//! The library is `libplaitgate.a`, for x86-64. build.rs looks for it in the folder that the variable
-//! `PLAITGATE_LIB_DIR` names, else in `target/staticlib` beside this crate, where `rt staticlib plaitgate` writes it.
+//! The library is `libplaitgate.a`. build.rs takes the one in the folder that the variable `PLAITGATE_LIB_DIR` names, else
+//! the one that Plaitgate's tools make beside this crate, and has it made where it is missing.
 
 #![cfg_attr(not(any(feature = "std", test)), no_std)]
 #![warn(missing_debug_implementations, unused_must_use)]
