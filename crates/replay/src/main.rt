@@ -1,9 +1,6 @@
 // Replays recorded answers: reads the recorded list from standard input, asks the library for each of its calls, and says
 // how many lines agree with the library and how many differ.
 mod ask;
-mod ask_builtin;
-mod ask_civil;
-mod ask_tables;
 mod list;
 mod reply;
 mod tables;

@@ -113,3 +113,8 @@ impl Reply {
         }
     }
 }
+
+// A number of the list that the call takes in 32 bits.
+pub fn low(n: u64) -> u32 {
+    (n % 4_294_967_296) as u32
+}

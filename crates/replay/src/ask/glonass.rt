@@ -1,0 +1,124 @@
+// Questions about GLONASS counts.
+use crate::reply::Question;
+use crate::reply::Reply;
+use crate::reply::low;
+use plaitgate::glonass::plaitgate_glonass_as_nanos;
+use plaitgate::glonass::plaitgate_glonass_as_parts;
+use plaitgate::glonass::plaitgate_glonass_as_seconds;
+use plaitgate::glonass::plaitgate_glonass_checked_add;
+use plaitgate::glonass::plaitgate_glonass_checked_elapsed;
+use plaitgate::glonass::plaitgate_glonass_checked_from_seconds;
+use plaitgate::glonass::plaitgate_glonass_checked_sub_duration;
+use plaitgate::glonass::plaitgate_glonass_day;
+use plaitgate::glonass::plaitgate_glonass_day_of_week;
+use plaitgate::glonass::plaitgate_glonass_from_day_tod;
+use plaitgate::glonass::plaitgate_glonass_from_nanos;
+use plaitgate::glonass::plaitgate_glonass_is_weekend;
+use plaitgate::glonass::plaitgate_glonass_limits;
+use plaitgate::glonass::plaitgate_glonass_saturating_add;
+use plaitgate::glonass::plaitgate_glonass_saturating_sub_duration;
+use plaitgate::glonass::plaitgate_glonass_sub_second_nanos;
+use plaitgate::glonass::plaitgate_glonass_tod_seconds;
+
+pub fn counts(call: u64, q: Question) -> Reply {
+    match call {
+        1 => {
+            let mut a: u64 = 1;
+            let number = plaitgate_glonass_from_nanos(q.x, &mut a);
+            Reply::one(number, a)
+        }
+        2 => {
+            let mut a: u64 = 1;
+            let number = plaitgate_glonass_as_nanos(q.x, &mut a);
+            Reply::one(number, a)
+        }
+        3 => {
+            let mut a: u64 = 1;
+            let number = plaitgate_glonass_checked_from_seconds(q.x, &mut a);
+            Reply::one(number, a)
+        }
+        4 => {
+            let mut a: u64 = 1;
+            let number = plaitgate_glonass_as_seconds(q.x, &mut a);
+            Reply::one(number, a)
+        }
+        5 => {
+            let mut a: u64 = 1;
+            let mut b: u32 = 1;
+            let number = plaitgate_glonass_as_parts(q.x, &mut a, &mut b);
+            Reply::two(number, a, b as u64)
+        }
+        6 => {
+            let mut a: u64 = 1;
+            let number = plaitgate_glonass_checked_add(q.x, q.duration(), &mut a);
+            Reply::one(number, a)
+        }
+        7 => {
+            let mut a: u64 = 1;
+            let number = plaitgate_glonass_checked_sub_duration(q.x, q.duration(), &mut a);
+            Reply::one(number, a)
+        }
+        8 => {
+            let mut a: u64 = 1;
+            let number = plaitgate_glonass_saturating_add(q.x, q.duration(), &mut a);
+            Reply::one(number, a)
+        }
+        9 => {
+            let mut a: u64 = 1;
+            let number = plaitgate_glonass_saturating_sub_duration(q.x, q.duration(), &mut a);
+            Reply::one(number, a)
+        }
+        10 => {
+            let mut a: i64 = 1;
+            let number = plaitgate_glonass_checked_elapsed(q.x, q.y, &mut a);
+            Reply::signed(number, a)
+        }
+        _ => {
+            let mut a: u64 = 1;
+            let mut b: u64 = 1;
+            let mut c: u64 = 1;
+            let mut d: u64 = 1;
+            let number = plaitgate_glonass_limits(&mut a, &mut b, &mut c, &mut d);
+            Reply {
+                number,
+                values: [a, b, c, d, 0, 0, 0],
+                minus: false,
+            }
+        }
+    }
+}
+
+pub fn days(call: u64, q: Question) -> Reply {
+    match call {
+        1 => {
+            let mut a: u64 = 1;
+            let number = plaitgate_glonass_from_day_tod(low(q.x), q.y, low(q.z), &mut a);
+            Reply::one(number, a)
+        }
+        2 => {
+            let mut a: u32 = 1;
+            let number = plaitgate_glonass_day(q.x, &mut a);
+            Reply::one(number, a as u64)
+        }
+        3 => {
+            let mut a: u32 = 1;
+            let number = plaitgate_glonass_tod_seconds(q.x, &mut a);
+            Reply::one(number, a as u64)
+        }
+        4 => {
+            let mut a: u32 = 1;
+            let number = plaitgate_glonass_sub_second_nanos(q.x, &mut a);
+            Reply::one(number, a as u64)
+        }
+        5 => {
+            let mut a: u8 = 1;
+            let number = plaitgate_glonass_day_of_week(q.x, &mut a);
+            Reply::one(number, a as u64)
+        }
+        _ => {
+            let mut a: u8 = 1;
+            let number = plaitgate_glonass_is_weekend(q.x, &mut a);
+            Reply::one(number, a as u64)
+        }
+    }
+}
