@@ -1,2 +1,5 @@
 pub mod Values
 pub mod Told
+pub mod ByAnswer
+pub mod Passing
+pub mod LentEntries

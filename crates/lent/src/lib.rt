@@ -1,4 +1,6 @@
 // The lent forms, after leap.rs: a table lent and extended in place.
+pub mod inner;
+
 ghost use mathlib.Core.Path.{_≡_};
 ghost use Rattle.tables.specs.Slots.{extended};
 ghost use Rattle.tables.specs.Answers.{takenIn};
