@@ -13,9 +13,15 @@ use lib.Seq.{drop-cons}
 use lib.IntN.{pos, _+ℤ_}
 use mir.Syntax.{w32}
 use mir.Val.{SFits}
+use Rattle.tables.specs.Answers.{takenIn}
 use Rattle.tables.specs.Entries.{Entry, threshold, offset, entry, equal, neighbours, follows, valid, lastUpTo, offsetAt, lastOr, currentOffset, lastUpdate, stepRefusal, firstRefusal, checking}
 use Rattle.tables.proofs.Neighbours.{both, step-follows}
-use Rattle.lent.specs.Pass.{Seen, begun, after, passed, judged, checkAt, updateAt}
+use Rattle.lent.specs.declared.inner.Pass.{Pass}
+use Rattle.lent.specs.Pass.{Seen, seenIn, begun, after, passed, judged, checkAt, updateAt}
+
+-- what the contract of the pass says, at a reading and a list
+abbrev pub Said : ℕ → List Entry → Pass → Type 0
+Said t ys p = (seenIn p ≡ passed (begun t) ys) × (eqb (takenIn (p .answer)) 0 ≡ valid ys)
 
 abbrev pub noEntry : Entry
 noEntry = entry 0 (pos 0)

@@ -1,5 +1,4 @@
 -- `inner::pass_on` is the step of the pass.
-use mathlib.Core.Path.{_≡_, ap, _∙_}
 use borrow.Author.Needs.{needs}
 use borrow.Author.Tests.{eq-eqb, ne-eqb}
 use Rattle.lent.proofs.inner.pass_on.Statement.{statement}

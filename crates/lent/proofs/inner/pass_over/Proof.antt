@@ -46,6 +46,7 @@ use Rattle.lent.specs.declared.inner.Pass.{Pass}
 use Rattle.lent.proofs.inner.Pass as P
 use Rattle.lent.proofs.inner.Pass.Laws as P′
 use Rattle.lent.proofs.Values.{ev, pv, listᴹ}
+use Rattle.lent.proofs.Passing.{Said}
 use Rattle.lent.proofs.Told.{calls-told}
 use Rattle.lent.proofs.LentEntries.{Entries, entry-opens, entry-shuts, tests}
 use Rattle.lent.proofs.inner.begin as begin
@@ -61,7 +62,7 @@ use Rattle.lent.proofs.inner.pass_over as this
 use Rattle.lent.proofs.inner.pass_over.Statement as stated
 use Rattle.lent.proofs.inner.pass_over.Code as code
 use Rattle.lent.proofs.inner.pass_over.Code.Mir as mir
-use Rattle.lent.proofs.inner.pass_over.Proof.Turns.{State, Said, starts, at-i, left, below, scaled, next-fits, count-fits, next, less, ends}
+use Rattle.lent.proofs.inner.pass_over.Proof.Turns.{State, starts, at-i, left, below, scaled, next-fits, count-fits, next, less, ends}
 mod Turns
 
 abbrev stayed : Stays (this.ended .signature .params) (this.ended .kept)

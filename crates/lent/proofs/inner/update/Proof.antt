@@ -1,5 +1,4 @@
 -- `inner::update` answers the last threshold where more than the first entry was passed and none is refused.
-use mathlib.Core.Path.{ap, _∙_}
 use borrow.Author.Needs.{needs}
 use borrow.Author.Tests.{le-leb, lt-leb}
 use Rattle.lent.proofs.ByAnswer.{good, bad}

@@ -1,27 +1,25 @@
 -- What is known where a turn of the pass begins, in plain facts: the entries before place i are passed, and those from i on are still to come.
-use mathlib.Core.Path.{_≡_, refl, sym, ap, _∙_}
+use mathlib.Core.Path.{_≡_, sym, ap, _∙_}
 use mathlib.Core.Bool.{not}
 use mathlib.Core.List.{List, [], _∷_}
-use Prim.Native.Nat.{ℕ, _+_, _-_, _*_, _^_, _≤_, _<_}
+use Prim.Native.Nat.{ℕ, _+_, _-_, _*_, _^_, _<_}
 use native.Mathlib.Omega.{arith}
 use native.Mathlib.Decide.{decLt}
 use lib.Dec.{T, ltb, eqb, ltb→lt, nltb→le}
 use lib.ListN.{length, getD, drop}
 use mir.Syntax.{w32}
-use package.mir.Val.{Val, SFits}
+use package.mir.Val.{SFits}
 use denote.Laws.{Is}
 use denote.Struct.Laws as LL
-use Rattle.tables.specs.Answers.{takenIn}
-use Rattle.tables.specs.Entries.{offset, valid}
+use Rattle.tables.specs.Entries.{offset}
 use Rattle.tables.specs.declared.LeapEntry.{LeapEntry}
 use Rattle.tables.proofs.LeapEntry as E
 use Rattle.tables.proofs.LeapEntry.Laws as E′
 use Rattle.lent.specs.Pass.{Seen, seenIn, begun, after, passed}
 use Rattle.lent.specs.declared.inner.Pass.{Pass}
 use Rattle.lent.proofs.inner.Pass as P
-use Rattle.lent.proofs.inner.Pass.Laws as P′
 use Rattle.lent.proofs.Values.{ev, pv}
-use Rattle.lent.proofs.Passing.{noEntry, counts-on, one-on, at-end, first-found, none-refused}
+use Rattle.lent.proofs.Passing.{Said, noEntry, counts-on, one-on, at-end, first-found, none-refused}
 
 pub record State (t : ℕ) (ys : List LeapEntry) : Type 0 where
   pub i : ℕ
@@ -31,10 +29,6 @@ pub record State (t : ℕ) (ys : List LeapEntry) : Type 0 where
   -- what is to come makes of the pass what all entries make of its beginning
   pub comes : passed (seenIn pass) (drop i ys) ≡ passed (begun t) ys
   pub fits : (k : ℕ) → k < i → SFits w32 (offset (getD ys k noEntry))
-
--- what the contract says of the pass at the end
-abbrev pub Said : ℕ → List LeapEntry → Pass → Type 0
-Said t ys p = (seenIn p ≡ passed (begun t) ys) × (eqb (takenIn (p .answer)) 0 ≡ valid ys)
 
 module _ (t : ℕ) (ys : List LeapEntry) where
   abbrev pub starts : (p : Pass) → Is P.the-row p (pv p ∷ []) → seenIn p ≡ begun t → State t ys
