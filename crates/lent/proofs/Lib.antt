@@ -6,3 +6,6 @@ pub mod LentEntries
 pub mod ReadOff
 pub mod Handed
 pub mod Readers
+pub mod Agreement
+pub mod Stated
+pub mod Calls
