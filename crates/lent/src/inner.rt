@@ -1,0 +1,183 @@
+// One pass over a lent list of entries, which every call on such a list makes, and what each reads off what was seen.
+ghost use mathlib.Core.Path.{_≡_};
+ghost use Prim.Native.Nat.{_+_, _<_, _^_};
+ghost use lib.Dec.{eqb};
+ghost use Rattle.refusals.specs.Outcome.{answered};
+ghost use Rattle.tables.specs.Entries.{offset, valid};
+ghost use Rattle.tables.specs.Answers.{takenIn, lengthIn, emptyIn, updateIn, offsetIn};
+ghost use Rattle.lent.specs.Pass.{seenIn, begun, nearer, judged, after, passed, checkAt, ofTaken, updateAt};
+use refusals::Refusal;
+use scales::tai::Tai;
+use tables::EmptyAnswer;
+use tables::LeapEntry;
+use tables::LengthAnswer;
+use tables::OffsetAnswer;
+use tables::Taken;
+use tables::UpdateAnswer;
+use tables::inner::OFFSET_OF_NO_ENTRY;
+use tables::inner::step;
+
+// The entries passed so far, seen at a TAI reading.
+pub struct Pass {
+    // the reading, in nanoseconds
+    pub tai: u64,
+    pub count: usize,
+    pub last: LeapEntry,
+    // the last entry at or below the reading, or else the first
+    pub found: LeapEntry,
+    // the first refusal of an entry by the one before it
+    pub answer: Taken,
+}
+
+// Before the first entry.
+pub fn begin(tai: u64) -> Pass
+    ensures { λ r. ⌜ seenIn r ≡ begun tai ⌝ }
+{
+    let none = LeapEntry {
+        tai_nanos: 0,
+        tai_minus_utc: OFFSET_OF_NO_ENTRY,
+    };
+    Pass {
+        tai,
+        count: 0,
+        last: none,
+        found: none,
+        answer: Taken::Done,
+    }
+}
+
+// The last entry at or below a reading, one entry on.
+fn pick(tai: u64, found: LeapEntry, next: LeapEntry) -> LeapEntry
+    ensures { λ r. ⌜ r ≡ nearer tai found next ⌝ }
+{
+    if next.tai_nanos <= tai { next } else { found }
+}
+
+// The first refusal, one entry on.
+fn judge(answer: Taken, before: LeapEntry, next: LeapEntry) -> Taken
+    ensures { λ r. ⌜ takenIn r ≡ judged (takenIn answer) before next ⌝ }
+{
+    match answer {
+        Taken::Done => step(before, next),
+        Taken::Refused(why) => Taken::Refused(why),
+    }
+}
+
+// One entry on.
+pub fn pass_on(pass: Pass, next: LeapEntry) -> Pass
+    requires { ⌜ pass .count + 1 < 2 ^ 64 ⌝ }
+    ensures { λ r. ⌜ seenIn r ≡ after (seenIn pass) next ⌝ }
+{
+    let tai = pass.tai;
+    let count = pass.count;
+    let before = pass.last;
+    let near = pass.found;
+    let so_far = pass.answer;
+    if count == 0 {
+        return Pass {
+            tai,
+            count: 1,
+            last: next,
+            found: next,
+            answer: Taken::Done,
+        };
+    }
+    let found = pick(tai, near, next);
+    let answer = judge(so_far, before, next);
+    Pass {
+        tai,
+        count: count + 1,
+        last: next,
+        found,
+        answer,
+    }
+}
+
+// The check: 6 where there is no entry, else the first refusal.
+pub fn check(pass: Pass) -> Taken
+    ensures { λ r. ⌜ takenIn r ≡ checkAt (pass .count) (takenIn (pass .answer)) ⌝ }
+{
+    let answer = pass.answer;
+    if pass.count == 0 {
+        Taken::Refused(Refusal::EmptyTable)
+    } else {
+        answer
+    }
+}
+
+pub fn length(pass: Pass) -> LengthAnswer
+    ensures { λ r. ⌜ lengthIn r ≡ ofTaken (pass .answer) (answered (pass .count)) ⌝ }
+{
+    let answer = pass.answer;
+    match answer {
+        Taken::Done => LengthAnswer::Length(pass.count),
+        Taken::Refused(_) => LengthAnswer::Refused(Refusal::BadTable),
+    }
+}
+
+pub fn emptiness(pass: Pass) -> EmptyAnswer
+    ensures { λ r. ⌜ emptyIn r ≡ ofTaken (pass .answer) (answered (eqb (pass .count) 0)) ⌝ }
+{
+    let answer = pass.answer;
+    match answer {
+        Taken::Done => EmptyAnswer::Empty(pass.count == 0),
+        Taken::Refused(_) => EmptyAnswer::Refused(Refusal::BadTable),
+    }
+}
+
+// The threshold of the last event: nothing where there is at most the first entry.
+pub fn update(pass: Pass) -> UpdateAnswer
+    ensures { λ r. ⌜ updateIn r ≡ ofTaken (pass .answer) (answered (updateAt (pass .count) (pass .last))) ⌝ }
+{
+    let answer = pass.answer;
+    let last = pass.last;
+    if let Taken::Refused(_) = answer {
+        return UpdateAnswer::Refused(Refusal::BadTable);
+    }
+    if pass.count <= 1 {
+        UpdateAnswer::Nothing
+    } else {
+        UpdateAnswer::At(Tai(last.tai_nanos))
+    }
+}
+
+// An entry's offset, or 8 where the entries are refused.
+fn offset_of(answer: Taken, entry: LeapEntry) -> OffsetAnswer
+    ensures { λ r. ⌜ offsetIn r ≡ ofTaken answer (answered (offset entry)) ⌝ }
+{
+    match answer {
+        Taken::Done => OffsetAnswer::Offset(entry.tai_minus_utc),
+        Taken::Refused(_) => OffsetAnswer::Refused(Refusal::BadTable),
+    }
+}
+
+// The offset of the last entry, or 19.
+pub fn current(pass: Pass) -> OffsetAnswer
+    ensures { λ r. ⌜ offsetIn r ≡ ofTaken (pass .answer) (answered (offset (pass .last))) ⌝ }
+{
+    let answer = pass.answer;
+    let last = pass.last;
+    offset_of(answer, last)
+}
+
+// The offset in force at the reading.
+pub fn in_force(pass: Pass) -> OffsetAnswer
+    ensures { λ r. ⌜ offsetIn r ≡ ofTaken (pass .answer) (answered (offset (pass .found))) ⌝ }
+{
+    let answer = pass.answer;
+    let found = pass.found;
+    offset_of(answer, found)
+}
+
+// The pass itself, the only loop over a lent list. No entry is refused exactly if the list is valid.
+pub fn pass_over(entries: &[LeapEntry], tai: u64) -> Pass
+    ensures { λ r. ⌜ (seenIn r ≡ passed (begun tai) (now (entries .entry))) × (eqb (takenIn (r .answer)) 0 ≡ valid (now (entries .entry))) ⌝ }
+{
+    let mut pass = begin(tai);
+    let mut i: usize = 0;
+    while i < entries.len() {
+        pass = pass_on(pass, entries[i]);
+        i += 1;
+    }
+    pass
+}
