@@ -10,6 +10,7 @@ ghost use Rattle.conversions.specs.Conversions.{gpsToUtc, utcToGps, glonassToGp
 ghost use Rattle.conversions.specs.Answers.{unixIn};
 ghost use Rattle.builtin.specs.Builtin.{builtin};
 use conversions::UnixAnswer;
+use conversions::inner::after_utc;
 use scales::glonass::Glonass;
 use scales::glonass::GlonassAnswer;
 use scales::gps::Gps;
@@ -100,31 +101,23 @@ pub fn utc_to_gps(utc: Utc) -> GpsAnswer
 pub fn glonass_to_gps(glonass: Glonass) -> GpsAnswer
     ensures { λ r. ⌜ gpsIn r ≡ glonassToGps builtin (glonass .0) ⌝ }
 {
-    let thresholds = BUILTIN_THRESHOLDS;
-    let offsets = BUILTIN_OFFSETS;
-    GpsAnswer::of(conversions::inner::glonass_to_gps(&thresholds, &offsets, LEN, glonass.0))
+    GpsAnswer::of(lookup::glonass_to_gps(glonass.0))
 }
 
 pub fn gps_to_glonass(gps: Gps) -> GlonassAnswer
     ensures { λ r. ⌜ glonassIn r ≡ gpsToGlonass builtin (gps .0) ⌝ }
 {
-    let thresholds = BUILTIN_THRESHOLDS;
-    let offsets = BUILTIN_OFFSETS;
-    GlonassAnswer::of(conversions::inner::gps_to_glonass(&thresholds, &offsets, LEN, gps.0))
+    GlonassAnswer::of(after_utc::to_glonass(lookup::gps_to_utc(gps.0)))
 }
 
 pub fn gps_from_unix_seconds(seconds: i64) -> GpsAnswer
     ensures { λ r. ⌜ gpsIn r ≡ unixToGps builtin seconds ⌝ }
 {
-    let thresholds = BUILTIN_THRESHOLDS;
-    let offsets = BUILTIN_OFFSETS;
-    GpsAnswer::of(conversions::inner::unix_to_gps(&thresholds, &offsets, LEN, seconds))
+    GpsAnswer::of(lookup::unix_to_gps(seconds))
 }
 
 pub fn gps_as_unix_seconds(gps: Gps) -> UnixAnswer
     ensures { λ r. ⌜ unixIn r ≡ gpsToUnix builtin (gps .0) ⌝ }
 {
-    let thresholds = BUILTIN_THRESHOLDS;
-    let offsets = BUILTIN_OFFSETS;
-    conversions::inner::gps_to_unix(&thresholds, &offsets, LEN, gps.0)
+    after_utc::to_unix(lookup::gps_to_utc(gps.0))
 }

@@ -2,16 +2,18 @@
 // for each event at or before the reading: eighteen tests, which have no branch and read no table.
 ghost use mathlib.Core.Path.{_≡_};
 ghost use mathlib.Core.Bool.{cond};
+ghost use mathlib.Core.List.{[], _∷_};
 ghost use Prim.Native.Nat.{_≤_};
 ghost use lib.Dec.{leb};
 ghost use Rattle.counts.specs.Answers.{countIn};
 ghost use Rattle.tables.specs.Entries.{offsetAt};
-ghost use Rattle.conversions.specs.Conversions.{gpsToUtc, utcToGps};
+ghost use Rattle.conversions.specs.Conversions.{gpsToUtc, utcToGps, glonassToGps, unixToGps};
 ghost use Rattle.builtin.specs.Builtin.{builtin};
-ghost use Rattle.builtin.specs.Passed.{passed, eventsTo1993, eventsFrom1994};
+ghost use Rattle.builtin.specs.Passed.{passed};
 use conversions::inner;
 use counts::CountAnswer;
 use counts::sums;
+use counts::unix;
 
 // The threshold of each event: (its Unix second − 315,964,800 + the offset that begins) × 10⁹.
 pub const JULY_1981: u64 = 46_828_820_000_000_000;
@@ -57,42 +59,61 @@ fn reached(threshold: u64, tai: u64) -> u64
     if threshold <= tai { 1 } else { 0 }
 }
 
-// How many of the first nine events are at or before a reading.
-fn events_to_1993(tai: u64) -> u64
-    ensures is { λ r. ⌜ r ≡ passed tai eventsTo1993 ⌝ }
+// How many of nine thresholds a reading has reached.
+fn of_nine_reached(
+    first: u64,
+    second: u64,
+    third: u64,
+    fourth: u64,
+    fifth: u64,
+    sixth: u64,
+    seventh: u64,
+    eighth: u64,
+    ninth: u64,
+    tai: u64,
+) -> u64
+    ensures is { λ r. ⌜ r ≡ passed tai (first ∷ second ∷ third ∷ fourth ∷ fifth ∷ sixth ∷ seventh ∷ eighth ∷ ninth ∷ []) ⌝ }
     ensures few { λ r. ⌜ r ≤ 9 ⌝ }
 {
-    reached(JULY_1981, tai)
-        + reached(JULY_1982, tai)
-        + reached(JULY_1983, tai)
-        + reached(JULY_1985, tai)
-        + reached(JANUARY_1988, tai)
-        + reached(JANUARY_1990, tai)
-        + reached(JANUARY_1991, tai)
-        + reached(JULY_1992, tai)
-        + reached(JULY_1993, tai)
-}
-
-// How many of the last nine.
-fn events_from_1994(tai: u64) -> u64
-    ensures is { λ r. ⌜ r ≡ passed tai eventsFrom1994 ⌝ }
-    ensures few { λ r. ⌜ r ≤ 9 ⌝ }
-{
-    reached(JULY_1994, tai)
-        + reached(JANUARY_1996, tai)
-        + reached(JULY_1997, tai)
-        + reached(JANUARY_1999, tai)
-        + reached(JANUARY_2006, tai)
-        + reached(JANUARY_2009, tai)
-        + reached(JULY_2012, tai)
-        + reached(JULY_2015, tai)
-        + reached(JANUARY_2017, tai)
+    reached(first, tai)
+        + reached(second, tai)
+        + reached(third, tai)
+        + reached(fourth, tai)
+        + reached(fifth, tai)
+        + reached(sixth, tai)
+        + reached(seventh, tai)
+        + reached(eighth, tai)
+        + reached(ninth, tai)
 }
 
 pub fn offset_at(tai: u64) -> i32
     ensures { λ r. ⌜ r ≡ offsetAt builtin tai ⌝ }
 {
-    (19 + events_to_1993(tai) + events_from_1994(tai)) as i32
+    let to_1993 = of_nine_reached(
+        JULY_1981,
+        JULY_1982,
+        JULY_1983,
+        JULY_1985,
+        JANUARY_1988,
+        JANUARY_1990,
+        JANUARY_1991,
+        JULY_1992,
+        JULY_1993,
+        tai,
+    );
+    let from_1994 = of_nine_reached(
+        JULY_1994,
+        JANUARY_1996,
+        JULY_1997,
+        JANUARY_1999,
+        JANUARY_2006,
+        JANUARY_2009,
+        JULY_2012,
+        JULY_2015,
+        JANUARY_2017,
+        tai,
+    );
+    (19 + to_1993 + from_1994) as i32
 }
 
 pub fn gps_to_utc(gps: u64) -> CountAnswer
@@ -111,4 +132,22 @@ pub fn utc_to_gps(utc: u64) -> CountAnswer
     let n1 = offset_at(a);
     let b = inner::second_reading(utc, n1, a);
     inner::gps_by(offset_at(b), utc)
+}
+
+pub fn glonass_to_gps(glonass: u64) -> CountAnswer
+    ensures { λ r. ⌜ countIn r ≡ glonassToGps builtin glonass ⌝ }
+{
+    match inner::glonass_to_utc(glonass) {
+        CountAnswer::Count(utc) => utc_to_gps(utc),
+        CountAnswer::Refused(why) => CountAnswer::Refused(why),
+    }
+}
+
+pub fn unix_to_gps(seconds: i64) -> CountAnswer
+    ensures { λ r. ⌜ countIn r ≡ unixToGps builtin seconds ⌝ }
+{
+    match unix::from_unix_seconds(seconds) {
+        CountAnswer::Count(utc) => utc_to_gps(utc),
+        CountAnswer::Refused(why) => CountAnswer::Refused(why),
+    }
 }

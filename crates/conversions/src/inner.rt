@@ -1,4 +1,6 @@
 // The conversions on plain counts, over lent thresholds and offsets of which the first n count and are valid.
+pub mod after_utc;
+
 ghost use mathlib.Core.Path.{_≡_};
 ghost use mathlib.Core.Bool.{true};
 ghost use Prim.Native.Nat.{_≤_, _<_, _^_};
@@ -165,10 +167,7 @@ pub fn gps_to_glonass<'a>(
     requires { ⌜ valid (slots (now thresholds) (now offsets) n) ≡ true ⌝ }
     ensures { λ r. ⌜ countIn r ≡ gpsToGlonass (slots (now (thresholds .entry)) (now (offsets .entry)) n) gps ⌝ }
 {
-    match gps_to_utc(thresholds, offsets, n, gps) {
-        CountAnswer::Count(utc) => utc_to_glonass(utc),
-        CountAnswer::Refused(why) => CountAnswer::Refused(why),
-    }
+    after_utc::to_glonass(gps_to_utc(thresholds, offsets, n, gps))
 }
 
 pub fn unix_to_gps<'a>(
@@ -194,8 +193,5 @@ pub fn gps_to_unix<'a>(thresholds: &'a [u64], offsets: &'a [i32], n: usize, gps:
     requires { ⌜ valid (slots (now thresholds) (now offsets) n) ≡ true ⌝ }
     ensures { λ r. ⌜ unixIn r ≡ gpsToUnix (slots (now (thresholds .entry)) (now (offsets .entry)) n) gps ⌝ }
 {
-    match gps_to_utc(thresholds, offsets, n, gps) {
-        CountAnswer::Count(utc) => UnixAnswer::Seconds(unix::as_unix_seconds(utc)),
-        CountAnswer::Refused(why) => UnixAnswer::Refused(why),
-    }
+    after_utc::to_unix(gps_to_utc(thresholds, offsets, n, gps))
 }

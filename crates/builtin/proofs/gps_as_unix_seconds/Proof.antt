@@ -1,29 +1,20 @@
--- `gps_as_unix_seconds` meets its contract: its two constants are the list of the dates, by computation, and that list is valid.
-use mathlib.Core.Path.{refl}
+-- `gps_as_unix_seconds` meets its contract: the UTC answer goes on to Unix seconds.
+use mathlib.Core.Path.{ap, _∙_}
 use borrow.Author.Needs.{needs}
-use Rattle.calendar.specs.Formula.{formula, era, yoe, doy, doe}
-use Rattle.tables.specs.Entries.{neighbours}
-use Rattle.tables.specs.Slots.{paired}
-use Rattle.builtin.specs.Builtin.{builtin, events, thresholdOf, entriesFrom}
+use Prim.Native.Nat.{ℕ}
+use Rattle.refusals.specs.Outcome.{Outcome}
+use Rattle.conversions.specs.Conversions.{then, unixOf}
 use Rattle.builtin.proofs.gps_as_unix_seconds.Statement.{statement}
 use Rattle.builtin.proofs.gps_as_unix_seconds.Tie as tie
 
-slice-aggregate-gps-to-unix : tie.Need-slice-aggregate-gps-to-unix
-slice-aggregate-gps-to-unix c = search needs
+gps-to-utc-requires : tie.Need-gps-to-utc-requires
+gps-to-utc-requires c κs = search needs
 
-slice-aggregate-gps-to-unix-2 : tie.Need-slice-aggregate-gps-to-unix-2
-slice-aggregate-gps-to-unix-2 c = search needs
-
-gps-to-unix-requires : tie.Need-gps-to-unix-requires
-unfolding neighbours paired
-gps-to-unix-requires c κs = (search needs, (search needs, refl))
+to-unix-requires : tie.Need-to-unix-requires
+to-unix-requires c κs = search needs
 
 returns : tie.Need-returns
-unfolding builtin events thresholdOf entriesFrom formula era yoe doy doe paired
-returns c =
-    c .gps-to-unix .ensures
+returns c = c .to-unix .ensures ∙ ap (λ (o : Outcome ℕ). then o unixOf) (c .before .gps-to-utc .ensures)
 
 pub gps-as-unix-seconds-spec : {M : Type 1} → statement M
-gps-as-unix-seconds-spec =
-    tie.close
-    (tie.spec slice-aggregate-gps-to-unix slice-aggregate-gps-to-unix-2 gps-to-unix-requires returns)
+gps-as-unix-seconds-spec = tie.close (tie.spec gps-to-utc-requires to-unix-requires returns)

@@ -1,32 +1,23 @@
--- `gps_to_glonass` meets its contract: its two constants are the list of the dates, by computation, and that list is valid.
-use mathlib.Core.Path.{refl, _∙_}
+-- `gps_to_glonass` meets its contract: the UTC answer goes on to GLONASS.
+use mathlib.Core.Path.{ap, _∙_}
 use borrow.Author.Needs.{needs}
-use Rattle.calendar.specs.Formula.{formula, era, yoe, doy, doe}
-use Rattle.tables.specs.Entries.{neighbours}
-use Rattle.tables.specs.Slots.{paired}
-use Rattle.builtin.specs.Builtin.{builtin, events, thresholdOf, entriesFrom}
+use Prim.Native.Nat.{ℕ}
+use Rattle.refusals.specs.Outcome.{Outcome}
+use Rattle.conversions.specs.Conversions.{then, utcToGlonass}
 use Rattle.builtin.proofs.gps_to_glonass.Statement.{statement}
 use Rattle.builtin.proofs.gps_to_glonass.Tie as tie
 
-slice-aggregate-gps-to-glonass : tie.Need-slice-aggregate-gps-to-glonass
-slice-aggregate-gps-to-glonass c = search needs
+gps-to-utc-requires : tie.Need-gps-to-utc-requires
+gps-to-utc-requires c κs = search needs
 
-slice-aggregate-gps-to-glonass-2 : tie.Need-slice-aggregate-gps-to-glonass-2
-slice-aggregate-gps-to-glonass-2 c = search needs
-
-gps-to-glonass-requires : tie.Need-gps-to-glonass-requires
-unfolding neighbours paired
-gps-to-glonass-requires c κs = (search needs, (search needs, refl))
+to-glonass-requires : tie.Need-to-glonass-requires
+to-glonass-requires c κs = search needs
 
 of-requires : tie.Need-of-requires
 of-requires c κs = search needs
 
 returns : tie.Need-returns
-unfolding builtin events thresholdOf entriesFrom formula era yoe doy doe paired
-returns c =
-    c .of .ensures ∙ c .before .gps-to-glonass .ensures
+returns c = c .of .ensures ∙ c .before .to-glonass .ensures ∙ ap (λ (o : Outcome ℕ). then o utcToGlonass) (c .before .before .gps-to-utc .ensures)
 
 pub gps-to-glonass-spec : {M : Type 1} → statement M
-gps-to-glonass-spec =
-    tie.close
-    (tie.spec slice-aggregate-gps-to-glonass slice-aggregate-gps-to-glonass-2 gps-to-glonass-requires of-requires returns)
+gps-to-glonass-spec = tie.close (tie.spec gps-to-utc-requires to-glonass-requires of-requires returns)

@@ -1,10 +1,10 @@
--- `events_from_1994` meets its contract: a test for each threshold, put in order.
+-- `of_nine_reached` meets its contract: a test for each threshold, put in order.
 use native.Mathlib.Omega.{arith}
 use native.Mathlib.Nat.{add-assoc, add-zero}
 use borrow.Author.Needs.{needs}
-use Rattle.builtin.specs.Passed.{passed, eventsFrom1994}
-use Rattle.builtin.proofs.lookup.events_from_1994.Statement.{statement}
-use Rattle.builtin.proofs.lookup.events_from_1994.Tie as tie
+use Rattle.builtin.specs.Passed.{passed}
+use Rattle.builtin.proofs.lookup.of_nine_reached.Statement.{statement}
+use Rattle.builtin.proofs.lookup.of_nine_reached.Tie as tie
 
 reached-requires : tie.Need-reached-requires
 reached-requires c κs = search needs
@@ -58,7 +58,7 @@ add-result-8 : tie.Need-add-result-8
 add-result-8 c = search needs
 
 returns : tie.Need-returns
-unfolding passed eventsFrom1994
+unfolding passed
 returns c = (
   simp (
     c .reached9 .ensures .0,
@@ -76,8 +76,8 @@ returns c = (
   omega arith,
 )
 
-pub events-from-1994-spec : {M : Type 1} → statement M
-events-from-1994-spec =
+pub of-nine-reached-spec : {M : Type 1} → statement M
+of-nine-reached-spec =
     tie.close
     (tie.spec
     reached-requires

@@ -1,0 +1,3 @@
+pub mod InSlots
+pub mod OnePass
+pub mod Judged
