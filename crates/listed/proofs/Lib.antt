@@ -1,0 +1,2 @@
+mod InBytes
+pub mod Calls
