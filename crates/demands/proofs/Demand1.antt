@@ -23,9 +23,10 @@ use Rattle.tables.proofs.Extensions.{refusal-keeps}
 use Rattle.images.specs.Image.{sized, imageBytes, tableIn, imageOf, stored, entriesIn, builtFrom}
 use Rattle.conversions.specs.Conversions.{gpsToUtc, utcToGps, glonassToUtc, utcToGlonass, glonassToGps, gpsToGlonass, unixToGps, gpsToUnix}
 use Rattle.builtin.specs.Builtin.{builtin}
+use Rattle.listed.specs.Listed.{ofListed}
 use Rattle.plaitgate.specs.Civil.{fields}
 use Rattle.plaitgate.specs.Tables.{tableOfImage, leaves, changed, bit, foundEntry, foundCount}
-use Rattle.demands.specs.RefusalsLeave.{OfScales, OfCivilTimes, OfConversions, OfReadTables, OfWrittenTables, OfTablesByValue}
+use Rattle.demands.specs.RefusalsLeave.{OfScales, OfCivilTimes, OfConversions, OfReadTables, OfReadLists, OfWrittenTables, OfTablesByValue}
 
 -- beside a refusal a host is given zeros
 zeros-beside : {A : Type 0} {zeros value : A} {number : ℕ} (o : Outcome A) → Gives zeros o number value → number ≢ 0 → value ≡ zeros
@@ -99,6 +100,15 @@ of-read-tables = record {
   last-update = λ κ a k e p n. zeros-beside (changed foundCount (by-image (now (a .0)) (λ es. answered (lastUpdate es)))) p n;
   current-tai-minus-utc = λ κ a k e p n. zeros-beside (by-image (now (a .0)) (λ es. answered (currentOffset es))) p n;
   tai-minus-utc-at = λ κ a k e p n. zeros-beside (by-image (now (a .0)) (λ es. answered (offsetAt es (a .1 .0)))) p n;
+}
+
+pub of-read-lists : OfReadLists
+of-read-lists = record {
+  len = λ κ a k e p n. zeros-beside (ofListed (now (a .0)) (λ es. answered (length es))) p n;
+  is-empty = λ κ a k e p n. zeros-beside (changed bit (ofListed (now (a .0)) (λ es. answered (eqb (length es) 0)))) p n;
+  last-update = λ κ a k e p n. zeros-beside (changed foundCount (ofListed (now (a .0)) (λ es. answered (lastUpdate es)))) p n;
+  current-tai-minus-utc = λ κ a k e p n. zeros-beside (ofListed (now (a .0)) (λ es. answered (currentOffset es))) p n;
+  tai-minus-utc-at = λ κ a k e p n. zeros-beside (ofListed (now (a .0)) (λ es. answered (offsetAt es (a .1 .0)))) p n;
 }
 
 -- bytes that are written where a test says so, and else left beside a number

@@ -64,6 +64,11 @@ use Rattle.plaitgate.proofs.leap_tables.plaitgate_table_entry_at.Reads as table
 use Rattle.plaitgate.proofs.leap_tables.plaitgate_table_last_update.Reads as table-last-update-contract
 use Rattle.plaitgate.proofs.leap_tables.plaitgate_table_current_tai_minus_utc.Reads as table-current-tai-minus-utc-contract
 use Rattle.plaitgate.proofs.leap_tables.plaitgate_table_tai_minus_utc_at.Reads as table-tai-minus-utc-at-contract
+use Rattle.plaitgate.proofs.leap_lists.plaitgate_list_len.Reads as list-len-contract
+use Rattle.plaitgate.proofs.leap_lists.plaitgate_list_is_empty.Reads as list-is-empty-contract
+use Rattle.plaitgate.proofs.leap_lists.plaitgate_list_last_update.Reads as list-last-update-contract
+use Rattle.plaitgate.proofs.leap_lists.plaitgate_list_current_tai_minus_utc.Reads as list-current-tai-minus-utc-contract
+use Rattle.plaitgate.proofs.leap_lists.plaitgate_list_tai_minus_utc_at.Reads as list-tai-minus-utc-at-contract
 use Rattle.plaitgate.proofs.leap_tables.plaitgate_table_new.Reads as table-new-contract
 use Rattle.plaitgate.proofs.leap_tables.plaitgate_table_from_builtin.Reads as table-from-builtin-contract
 use Rattle.plaitgate.proofs.leap_tables.plaitgate_table_try_extend.Reads as table-try-extend-contract
@@ -141,6 +146,14 @@ pub record OfReadTables : Type 0 where
   pub last-update : ZerosBeside (foundAs 0 0) table-last-update-contract.Post (λ κ e. foundAs (now (e .1 .0)) (now (e .1 .1 .0)))
   pub current-tai-minus-utc : ZerosBeside (pos 0) table-current-tai-minus-utc-contract.Post (λ κ e. now (e .1 .0))
   pub tai-minus-utc-at : ZerosBeside (pos 0) table-tai-minus-utc-at-contract.Post (λ κ e. now (e .1 .1 .0))
+
+-- what is read from a lent list of entries
+pub record OfReadLists : Type 0 where
+  pub len : ZerosBeside 0 list-len-contract.Post (λ κ e. now (e .1 .0))
+  pub is-empty : ZerosBeside 0 list-is-empty-contract.Post (λ κ e. now (e .1 .0))
+  pub last-update : ZerosBeside (foundAs 0 0) list-last-update-contract.Post (λ κ e. foundAs (now (e .1 .0)) (now (e .1 .1 .0)))
+  pub current-tai-minus-utc : ZerosBeside (pos 0) list-current-tai-minus-utc-contract.Post (λ κ e. now (e .1 .0))
+  pub tai-minus-utc-at : ZerosBeside (pos 0) list-tai-minus-utc-at-contract.Post (λ κ e. now (e .1 .1 .0))
 
 -- an image that is written: a refused extension leaves its bytes, so the list of entries, the length and all 64 slots
 pub record OfWrittenTables : Type 0 where

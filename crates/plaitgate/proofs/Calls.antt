@@ -9,3 +9,4 @@ pub mod CivilTimes
 pub mod ByBuiltin
 pub mod ByTable
 pub mod LeapTables
+pub mod LeapLists
