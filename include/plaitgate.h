@@ -435,6 +435,38 @@ uint32_t plaitgate_table_current_tai_minus_utc(const uint8_t *image, size_t imag
    the first threshold, 19 where the table has no entry. Refuses by 8. */
 uint32_t plaitgate_table_tai_minus_utc_at(const uint8_t *image, size_t image_bytes, uint64_t tai, int32_t *offset);
 
+/* ---- Lent lists of entries ---- */
+
+/*
+ * A list of entries may also be used as it is, with any number of them and no image: it is read where it lies, and
+ * nothing is written to it. A list is valid if its thresholds rise and its offsets rise by exactly 1; one of no entries
+ * is. Where the bytes are no whole number of entries, and where the list is not valid, each call but the check refuses
+ * by 8.
+ */
+
+/* Whether a table could have these entries, but for their number. Refuses by 8 where the bytes are no whole number of
+   entries, by 6 where there are none; then for the first entry that cannot follow the one before it: by 3 where its
+   threshold is not above that one's, by 7 where that one's offset is 2147483647, by 4 where its offset is not one
+   more. */
+uint32_t plaitgate_list_check(const uint8_t *entries, size_t entries_bytes);
+
+/* The number of entries. Refuses by 8. */
+uint32_t plaitgate_list_len(const uint8_t *entries, size_t entries_bytes, uint64_t *len);
+
+/* 1 where the list has no entry, else 0. Refuses by 8. */
+uint32_t plaitgate_list_is_empty(const uint8_t *entries, size_t entries_bytes, uint8_t *yes);
+
+/* The last threshold, and found 1; where the list has no entry or only one there is nothing, and both results are 0.
+   Refuses by 8. */
+uint32_t plaitgate_list_last_update(const uint8_t *entries, size_t entries_bytes, uint8_t *found, uint64_t *tai);
+
+/* The last offset, or 19 where the list has no entry. Refuses by 8. */
+uint32_t plaitgate_list_current_tai_minus_utc(const uint8_t *entries, size_t entries_bytes, int32_t *offset);
+
+/* The offset in force at a TAI count: that of the last entry whose threshold is not above it, the first offset before
+   the first threshold, 19 where the list has no entry. Refuses by 8. */
+uint32_t plaitgate_list_tai_minus_utc_at(const uint8_t *entries, size_t entries_bytes, uint64_t tai, int32_t *offset);
+
 /* ---- Conversions by a table ---- */
 
 /* The UTC count of a GPS count: by the offset n in force 19 s on, n - 19 s less and 252892800 s more. Refuses by 8

@@ -135,7 +135,7 @@ fn readers() -> [Call; 6] {
 }
 
 /// 1 and what there is, or zeros.
-fn found<const N: usize>(what: Option<[i128; N]>) -> Outcome {
+pub fn found<const N: usize>(what: Option<[i128; N]>) -> Outcome {
     let found = i128::from(what.is_some());
     Ok([vec![found], what.unwrap_or([0; N]).to_vec()].concat())
 }

@@ -1,6 +1,7 @@
 //! The table of all calls that are compared, an entry each. A call's number in the recorded list is its place
 //! here, from 1: a new call goes to the end.
 
+use crate::by_list;
 use crate::by_table;
 use crate::call;
 use crate::call::Call;
@@ -55,6 +56,7 @@ pub fn calls() -> Vec<Call> {
     calls.extend(civil_calls());
     calls.extend(builtin_calls());
     calls.extend(by_table::calls());
+    calls.extend(by_list::calls());
     calls
 }
 

@@ -1,15 +1,42 @@
-//! Lists of entries that a table is built from. A call that builds has a number among its inputs that picks one.
+//! Lists of entries that a table is built from, or that are lent as they are. A call with a list has a number among its
+//! inputs that picks one.
 
 use crate::call::Named;
 use crate::chance::Chance;
 use crate::images::{self, list, prepared, BUILTIN, ENTRY_BYTES, FULL};
 use crate::inputs::{Group, Trials};
-use gnss_time::LeapEntry;
+use gnss_time::{LeapEntry, LeapSeconds};
 use std::sync::OnceLock;
 
-static LISTS: OnceLock<Vec<Vec<u8>>> = OnceLock::new();
+/// Bytes that are lent, and what the crate has instead.
+pub struct Lent {
+    /// The bytes, with one before them, so that they begin at an odd address.
+    behind_one: Vec<u8>,
+    /// The entries, where the bytes are a whole number of them; for good, as the crate wants them.
+    pub entries: Option<&'static [LeapEntry]>,
+    /// The crate's table over these entries, where it takes them; of no entries it has one too.
+    pub taken: Option<LeapSeconds>,
+}
 
-/// After the tables are prepared: their entries as lists, lists of wrong lengths, and lists with something changed.
+impl Lent {
+    fn new(bytes: &[u8]) -> Lent {
+        let entries: Option<&'static [LeapEntry]> = entries_in(bytes).map(|entries| &*entries.leak());
+        let taken = entries.and_then(|entries| match entries {
+            [] => Some(LeapSeconds::from_slice(entries)),
+            _ => LeapSeconds::try_from_slice(entries).ok(),
+        });
+        Lent { behind_one: [&[0xA5], bytes].concat(), entries, taken }
+    }
+
+    pub fn bytes(&self) -> &[u8] {
+        &self.behind_one[1..]
+    }
+}
+
+static LISTS: OnceLock<Vec<Lent>> = OnceLock::new();
+
+/// After the tables are prepared: their entries as lists, lists of wrong lengths, long lists, and lists with something
+/// changed.
 pub fn prepare(seed: u64) {
     LISTS.get_or_init(|| {
         let tables = (0..images::all()).map(|number| prepared(number as i128));
@@ -17,18 +44,25 @@ pub fn prepare(seed: u64) {
         lists.extend(wrong_lengths());
         let mut chance = Chance::of("lists", seed);
         lists.extend((0..CHANGED).map(|_| changed(&mut chance)));
-        lists
+        lists.extend((0..LONG).map(|place| long(place, &mut chance)));
+        lists.iter().map(|bytes| Lent::new(bytes)).collect()
     });
 }
 
 const CHANGED: usize = 3_000;
+const LONG: usize = 1_000;
+const LONGEST: u64 = 200;
 
-fn all() -> &'static [Vec<u8>] {
+fn all() -> &'static [Lent] {
     LISTS.get().expect("lists are prepared first")
 }
 
-pub fn prepared_list(number: i128) -> &'static [u8] {
+pub fn lent(number: i128) -> &'static Lent {
     &all()[number as usize]
+}
+
+pub fn prepared_list(number: i128) -> &'static [u8] {
+    lent(number).bytes()
 }
 
 /// The entries of a list, if it is a whole number of them.
@@ -57,25 +91,48 @@ fn wrong_lengths() -> Vec<Vec<u8>> {
     lists
 }
 
+/// A valid list of 65 to 200 entries, and every other one with something changed.
+fn long(place: usize, chance: &mut Chance) -> Vec<u8> {
+    let bits = 1 + chance.below(56);
+    let mut threshold = chance.next() >> 8;
+    let first = chance.of_length_up_to(30) as i32;
+    let count = 65 + chance.below(LONGEST - 64) as usize;
+    let mut entries: Vec<LeapEntry> = (0..count)
+        .map(|at| {
+            threshold += 1 + (chance.next() >> (64 - bits));
+            LeapEntry::new(threshold, first + at as i32)
+        })
+        .collect();
+    if place % 2 == 1 {
+        change(&mut entries, chance);
+    }
+    list(&entries)
+}
+
 /// A table's entries with one or two numbers changed: to those of the entry before it, or to any.
 fn changed(chance: &mut Chance) -> Vec<u8> {
     let mut entries = prepared(chance.below(images::all() as u64).into()).entries().to_vec();
     for _ in 0..=chance.below(2) {
-        if entries.len() < 2 {
-            break;
-        }
-        let place = 1 + chance.below(entries.len() as u64 - 1) as usize;
-        let before = entries[place - 1];
-        let entry = &mut entries[place];
-        match chance.below(5) {
-            0 => entry.tai_nanos = before.tai_nanos,
-            1 => entry.tai_nanos = chance.next() >> chance.below(64),
-            2 => entry.tai_minus_utc = before.tai_minus_utc,
-            3 => entry.tai_minus_utc = chance.of_length_up_to(31) as i32,
-            _ => entries[place - 1].tai_minus_utc = i32::MAX,
-        }
+        change(&mut entries, chance);
     }
     list(&entries)
+}
+
+/// Changes one number of an entry behind the first.
+fn change(entries: &mut [LeapEntry], chance: &mut Chance) {
+    if entries.len() < 2 {
+        return;
+    }
+    let place = 1 + chance.below(entries.len() as u64 - 1) as usize;
+    let before = entries[place - 1];
+    let entry = &mut entries[place];
+    match chance.below(5) {
+        0 => entry.tai_nanos = before.tai_nanos,
+        1 => entry.tai_nanos = chance.next() >> chance.below(64),
+        2 => entry.tai_minus_utc = before.tai_minus_utc,
+        3 => entry.tai_minus_utc = chance.of_length_up_to(31) as i32,
+        _ => entries[place - 1].tai_minus_utc = i32::MAX,
+    }
 }
 
 /// A list, and the image that the table is written over: an image of each notable kind for a good list, and each list
@@ -88,5 +145,42 @@ pub fn over_images(_: &'static [Named]) -> Trials {
             Group::new(all().len(), move |list| vec![list as i128, (list * 7 % images) as i128]),
         ],
         draw: Box::new(move |chance| vec![chance.below(all().len() as u64).into(), chance.below(images as u64).into()]),
+    }
+}
+
+/// A list and no more: each of them.
+pub fn each(_: &'static [Named]) -> Trials {
+    Trials {
+        groups: vec![Group::new(all().len(), |list| vec![list as i128])],
+        draw: Box::new(|chance| vec![chance.below(all().len() as u64).into()]),
+    }
+}
+
+/// A list and a TAI reading: at each threshold of the list, one before and one behind it, and any.
+pub fn with_readings(_: &'static [Named]) -> Trials {
+    let around = |number: usize| {
+        let entries = lent(number as i128).entries.unwrap_or(&[]);
+        Group::new(3 * entries.len() + 2, move |place| {
+            let reading = match entries.get(place / 3) {
+                Some(entry) => entry.tai_nanos.wrapping_add(place as u64 % 3).wrapping_sub(1),
+                None => [0, u64::MAX][(place - 3 * entries.len()) % 2],
+            };
+            vec![number as i128, reading.into()]
+        })
+    };
+    Trials {
+        groups: (0..all().len()).step_by(5).map(around).collect(),
+        draw: Box::new(|chance| {
+            let number = chance.below(all().len() as u64).into();
+            let entries = lent(number).entries.unwrap_or(&[]);
+            let reading = match entries.len() as u64 {
+                0 => chance.next() >> chance.below(64),
+                many => {
+                    let threshold = entries[chance.below(many) as usize].tai_nanos;
+                    threshold.wrapping_add(chance.of_length_up_to(34) as u64)
+                }
+            };
+            vec![number, reading.into()]
+        }),
     }
 }

@@ -1,6 +1,7 @@
 //! The oracle: the crate gnss-time and the port in one process, compared call by call.
 //! `oracle/run` builds it and runs it.
 
+mod by_list;
 mod by_table;
 mod call;
 mod calls;
