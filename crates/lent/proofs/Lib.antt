@@ -3,6 +3,7 @@ pub mod Told
 pub mod ByAnswer
 pub mod Passing
 pub mod LentEntries
+pub mod InALocal
 pub mod ReadOff
 pub mod Handed
 pub mod Readers
