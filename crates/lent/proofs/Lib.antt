@@ -3,10 +3,12 @@ pub mod Told
 pub mod ByAnswer
 pub mod Passing
 pub mod LentEntries
-pub mod InALocal
 pub mod ReadOff
 pub mod Handed
 pub mod Readers
+pub mod InALocal
+pub mod Prefix
+pub mod Asked
 pub mod Agreement
 pub mod Stated
 pub mod Calls
