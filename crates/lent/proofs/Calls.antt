@@ -4,13 +4,15 @@ use Prim.Native.Nat.{ℕ}
 use lib.Dec.{eqb}
 use lib.ListN.{length}
 use Rattle.refusals.specs.Outcome.{answered}
-use Rattle.refusals.proofs.OneAnswer.{viewed}
+use Rattle.refusals.proofs.OneAnswer.{OneAnswer, viewed}
 use Rattle.tables.specs.Answers.{takenIn, lengthIn, emptyIn, updateIn, offsetIn}
 use Rattle.tables.specs.Entries.{checking, offsetAt, currentOffset, lastUpdate}
 use Rattle.tables.specs.Slots.{extended}
 use Rattle.tables.specs.declared.LeapTable.{LeapTable}
-use Rattle.tables.proofs.Tells.{taken-tells, length-tells, empty-tells, update-tells, offset-tells}
+use Rattle.tables.proofs.Tells.{taken-tells, extension-tells, length-tells, empty-tells, update-tells, offset-tells}
 use Rattle.lent.specs.Lists.{ofValidList}
+use Rattle.lent.specs.Copied.{ListAnswers, answersIn}
+use Rattle.lent.specs.declared.copied.Answers.{Answers}
 use Rattle.lent.proofs.Stated.{LeavesOne, LeavesOneAndEnd}
 use Rattle.lent.proofs.try_from_slice as try-from-slice-call
 use Rattle.lent.proofs.tai_minus_utc_at as tai-minus-utc-at-call
@@ -19,6 +21,8 @@ use Rattle.lent.proofs.is_empty as is-empty-call
 use Rattle.lent.proofs.last_update as last-update-call
 use Rattle.lent.proofs.current_tai_minus_utc as current-tai-minus-utc-call
 use Rattle.lent.proofs.try_extend as try-extend-call
+use Rattle.lent.proofs.copied.extended_in_place.Reads as extended-in-place-contract
+use Rattle.lent.proofs.copied.answers_of_first.Reads as answers-of-first-contract
 
 pub try-from-slice : LeavesOne try-from-slice-call.ended (λ M 𝓤 H. try-from-slice-call.clauses 𝓤 H)
 try-from-slice = record {
@@ -71,3 +75,20 @@ try-extend = record {
       let same = p ∙ sym q in
       (taken-tells x y (ap (λ (v : ℕ × LeapTable). v .0) same), ap (λ (v : ℕ × LeapTable). v .1) same);
 }
+
+-- the answers tell which they are, each by itself
+answers-tell : (x y : Answers) → answersIn x ≡ answersIn y → x ≡ y
+answers-tell x y e =
+    let k = taken-tells (x .check) (y .check) (ap (λ (v : ListAnswers). v .check) e) in
+    let n = length-tells (x .length) (y .length) (ap (λ (v : ListAnswers). v .size) e) in
+    let b = empty-tells (x .empty) (y .empty) (ap (λ (v : ListAnswers). v .empty) e) in
+    let u = update-tells (x .update) (y .update) (ap (λ (v : ListAnswers). v .update) e) in
+    let c = offset-tells (x .current) (y .current) (ap (λ (v : ListAnswers). v .current) e) in
+    let f = offset-tells (x .«in_force») (y .«in_force») (ap (λ (v : ListAnswers). v .inForce) e) in
+    λ i. record { check = k i; length = n i; empty = b i; update = u i; current = c i; «in_force» = f i }
+
+pub extended-in-place : OneAnswer extended-in-place-contract.Post
+extended-in-place κ a x y e f p q = viewed extension-tells x y p q
+
+pub answers-of-first : OneAnswer answers-of-first-contract.Post
+answers-of-first κ a x y e f p q = viewed answers-tell x y p q

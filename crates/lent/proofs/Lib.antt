@@ -6,6 +6,9 @@ pub mod LentEntries
 pub mod ReadOff
 pub mod Handed
 pub mod Readers
+pub mod InALocal
+pub mod Prefix
+pub mod Asked
 pub mod Agreement
 pub mod Stated
 pub mod Calls

@@ -1,3 +1,4 @@
 pub mod Lists
 pub mod Pass
 pub mod Promises
+pub mod Copied
