@@ -11,5 +11,4 @@ pub mod glonass;
 pub mod gps;
 pub mod leap_tables;
 pub mod tai;
-mod take;
 pub mod utc;
