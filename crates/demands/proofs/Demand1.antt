@@ -20,12 +20,12 @@ use Rattle.tables.specs.Entries.{Entry, entry, offsetAt, currentOffset, lastUpd
 use Rattle.tables.specs.Slots.{paired, entriesOf, ofValid, tableOf, extended, made}
 use Rattle.tables.specs.declared.LeapTable.{LeapTable}
 use Rattle.tables.proofs.Extensions.{refusal-keeps}
-use Rattle.images.specs.Image.{sized, imageBytes, tableIn, imageOf, stored, entriesIn, builtFrom}
+use Rattle.images.specs.Image.{sized, imageBytes, tableIn, tableOfImage, imageOf, stored, entriesIn, builtFrom}
 use Rattle.conversions.specs.Conversions.{gpsToUtc, utcToGps, glonassToUtc, utcToGlonass, glonassToGps, gpsToGlonass, unixToGps, gpsToUnix}
 use Rattle.builtin.specs.Builtin.{builtin}
 use Rattle.listed.specs.Listed.{ofListed}
 use Rattle.plaitgate.specs.Civil.{fields}
-use Rattle.plaitgate.specs.Tables.{tableOfImage, leaves, changed, bit, foundEntry, foundCount}
+use Rattle.plaitgate.specs.Tables.{leaves, changed, bit, foundEntry, foundCount}
 use Rattle.demands.specs.RefusalsLeave.{OfScales, OfCivilTimes, OfConversions, OfReadTables, OfReadLists, OfWrittenTables, OfTablesByValue}
 
 -- beside a refusal a host is given zeros

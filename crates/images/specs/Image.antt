@@ -63,6 +63,14 @@ entriesFrom (suc n) bs = entry (numberIn (take 8 bs)) (toZ w32 (numberIn (take 4
 abbrev pub entriesIn : List ℕ → List Entry
 entriesIn b = entriesFrom (length b / 12) b
 
+-- a table that is not valid: it says that it has 65 entries
+abbrev pub noTable : LeapTable
+noTable = record { thresholds = tableOf [] .thresholds; offsets = tableOf [] .offsets; len = 65 }
+
+-- the table of an image; bytes of another size are no valid table
+abbrev pub tableOfImage : List ℕ → LeapTable
+tableOfImage b = cond (sized b) (tableIn b) noTable
+
 -- 0 and the table of an image, or 8 and the empty table
 abbrev pub imageRead : List ℕ → ℕ × LeapTable
 imageRead b = cond (sized b) (0, tableIn b) (8, tableOf [])

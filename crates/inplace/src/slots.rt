@@ -3,8 +3,10 @@ ghost use mathlib.Core.Path.{_≡_};
 ghost use Prim.Native.Nat.{_+_, _^_, _≤_, _<_};
 ghost use lib.ListN.{length, getD, take, drop};
 ghost use lib.IntN.{pos};
+ghost use Rattle.tables.specs.Slots.{slotAt};
 ghost use Rattle.images.specs.Image.{numberIn, imageBytes, tableIn};
 use images::inner::signed;
+use tables::LeapEntry;
 
 fn byte(bytes: &[u8], at: usize) -> u64
     requires { ⌜ at < length (now bytes) ⌝ }
@@ -58,4 +60,16 @@ pub fn offset(image: &[u8], i: usize) -> i32
     ensures { λ r. ⌜ r ≡ getD (tableIn (now (image .entry)) .offsets) i (pos 0) ⌝ }
 {
     signed(number_in_4(image, 520 + 4 * i) as u32)
+}
+
+// The entry in slot i.
+pub fn entry(image: &[u8], i: usize) -> LeapEntry
+    requires { ⌜ length (now image) ≡ imageBytes ⌝ }
+    requires { ⌜ i < 64 ⌝ }
+    ensures { λ r. ⌜ r ≡ slotAt (tableIn (now (image .entry)) .thresholds) (tableIn (now (image .entry)) .offsets) i ⌝ }
+{
+    LeapEntry {
+        tai_nanos: threshold(image, i),
+        tai_minus_utc: offset(image, i),
+    }
 }

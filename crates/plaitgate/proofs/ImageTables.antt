@@ -1,26 +1,8 @@
--- What reading an image says of the table that is taken from it.
-use mathlib.Core.Path.{_≡_, refl, ap, _∙_}
+-- What writing an image says of the bytes that are left.
+use mathlib.Core.Path.{_≡_, ap, _∙_}
 use mathlib.Core.Bool.{Bool, true, false, cond}
 use Prim.Native.Nat.{ℕ}
 use native.Mathlib.Omega.{arith}
-
-module _ {T : Type 0} {k : ℕ} {t : T} (s : Bool) (u v w : T) where
-  pub read : _≡_ {A = ℕ × T} (k, t) (cond s (0, u) (8, v)) → k ≡ 0 → t ≡ cond s u w
-  read e z = by-size s e
-    where
-      never : {n : ℕ} → n ≡ 8 → n ≡ 0 → ⊥
-      never e z = omega arith
-
-      by-size : (s : Bool) → _≡_ {A = ℕ × T} (k, t) (cond s (0, u) (8, v)) → t ≡ cond s u w
-      by-size true e = ap (λ (p : ℕ × T). p .1) e
-      by-size false e = absurd (never (ap (λ (p : ℕ × T). p .0) e) z)
-
-  pub not-read : _≡_ {A = ℕ × T} (k, t) (cond s (0, u) (8, v)) → (k ≡ 0 → ⊥) → w ≡ cond s u w
-  not-read e n = by-size s e
-    where
-      by-size : (s : Bool) → _≡_ {A = ℕ × T} (k, t) (cond s (0, u) (8, v)) → w ≡ cond s u w
-      by-size true e = absurd (n (ap (λ (p : ℕ × T). p .0) e))
-      by-size false e = refl
 
 module _ {T B : Type 0} (img : T → B) (s : Bool) (t : T) (b : B) {k : ℕ} {x : B} where
   -- a table that was built is written

@@ -1,22 +1,12 @@
 -- Tables that cross as images, and what is said of their entries.
 use mathlib.Core.Bool.{Bool, cond}
 use mathlib.Core.Option.{Option, none, some}
-use mathlib.Core.List.{List, []}
+use mathlib.Core.List.{List}
 use Prim.Native.Nat.{ℕ}
 use lib.IntN.{pos}
 use Rattle.refusals.specs.Outcome.{Outcome, answered, refused}
 use Rattle.tables.specs.Entries.{Entry, entry}
-use Rattle.tables.specs.Slots.{tableOf}
-use Rattle.tables.specs.declared.LeapTable.{LeapTable}
-use Rattle.images.specs.Image.{sized, tableIn, imageOf, builtFrom}
-
--- a table that is not valid: it says that it has 65 entries
-abbrev pub noTable : LeapTable
-noTable = record { thresholds = tableOf [] .thresholds; offsets = tableOf [] .offsets; len = 65 }
-
--- the table of an image; bytes of another size are no valid table
-abbrev pub tableOfImage : List ℕ → LeapTable
-tableOfImage b = cond (sized b) (tableIn b) noTable
+use Rattle.images.specs.Image.{sized, imageOf, builtFrom}
 
 -- the number that a call gives, and the bytes that it leaves
 abbrev pub leaves : ℕ → List ℕ → ℕ × List ℕ

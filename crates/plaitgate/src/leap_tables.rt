@@ -8,11 +8,10 @@ ghost use lib.ListN.{length, getElem?};
 ghost use Rattle.refusals.specs.Outcome.{Gives, answered};
 ghost use Rattle.tables.specs.Entries.{entry, offsetAt, currentOffset, lastUpdate};
 ghost use Rattle.tables.specs.Slots.{entriesOf, ofValid, tableOf};
-ghost use Rattle.images.specs.Image.{imageWritten, imageExtended};
+ghost use Rattle.images.specs.Image.{tableOfImage, imageWritten, imageExtended};
 ghost use Rattle.builtin.specs.Builtin.{builtin};
-ghost use Rattle.plaitgate.specs.Tables.{tableOfImage, leaves, imageBuilt, changed, bit, foundAs, foundEntry, foundCount};
+ghost use Rattle.plaitgate.specs.Tables.{leaves, imageBuilt, changed, bit, foundAs, foundEntry, foundCount};
 use crate::give;
-use crate::take::table_of_image;
 use scales::tai::Tai;
 use tables::LeapTable;
 use tables::Taken;
@@ -61,14 +60,14 @@ pub extern "C" fn plaitgate_table_try_extend(
 pub extern "C" fn plaitgate_table_len(image: &[u8], len: &mut u64) -> u32
     ensures { λ r. ⌜ Gives 0 (ofValid (tableOfImage (now (image .entry))) (answered (length (entriesOf (tableOfImage (now (image .entry))))))) r (now (len .exit)) ⌝ }
 {
-    give::length(table_of_image(image).len(), len)
+    give::length(inplace::len(image), len)
 }
 
 #[no_mangle]
 pub extern "C" fn plaitgate_table_is_empty(image: &[u8], yes: &mut u8) -> u32
     ensures { λ r. ⌜ Gives 0 (changed bit (ofValid (tableOfImage (now (image .entry))) (answered (eqb (length (entriesOf (tableOfImage (now (image .entry))))) 0)))) r (now (yes .exit)) ⌝ }
 {
-    give::emptiness(table_of_image(image).is_empty(), yes)
+    give::emptiness(inplace::is_empty(image), yes)
 }
 
 #[no_mangle]
@@ -82,7 +81,7 @@ pub extern "C" fn plaitgate_table_entry_at(
     ensures { λ r. ⌜ Gives (foundEntry none) (changed foundEntry (ofValid (tableOfImage (now (image .entry))) (answered (getElem? (entriesOf (tableOfImage (now (image .entry)))) place)))) r (foundAs (now (found .exit)) (entry (now («tai_nanos» .exit)) (now («tai_minus_utc» .exit)))) ⌝ }
 {
     give::entry(
-        table_of_image(image).entry_at(place as usize),
+        inplace::entry_at(image, place as usize),
         found,
         tai_nanos,
         tai_minus_utc,
@@ -93,19 +92,19 @@ pub extern "C" fn plaitgate_table_entry_at(
 pub extern "C" fn plaitgate_table_last_update(image: &[u8], found: &mut u8, tai: &mut u64) -> u32
     ensures { λ r. ⌜ Gives (foundCount none) (changed foundCount (ofValid (tableOfImage (now (image .entry))) (answered (lastUpdate (entriesOf (tableOfImage (now (image .entry)))))))) r (foundAs (now (found .exit)) (now (tai .exit))) ⌝ }
 {
-    give::update(table_of_image(image).last_update(), found, tai)
+    give::update(inplace::last_update(image), found, tai)
 }
 
 #[no_mangle]
 pub extern "C" fn plaitgate_table_current_tai_minus_utc(image: &[u8], offset: &mut i32) -> u32
     ensures { λ r. ⌜ Gives (pos 0) (ofValid (tableOfImage (now (image .entry))) (answered (currentOffset (entriesOf (tableOfImage (now (image .entry))))))) r (now (offset .exit)) ⌝ }
 {
-    give::offset(table_of_image(image).current_tai_minus_utc(), offset)
+    give::offset(inplace::current_tai_minus_utc(image), offset)
 }
 
 #[no_mangle]
 pub extern "C" fn plaitgate_table_tai_minus_utc_at(image: &[u8], tai: u64, offset: &mut i32) -> u32
     ensures { λ r. ⌜ Gives (pos 0) (ofValid (tableOfImage (now (image .entry))) (answered (offsetAt (entriesOf (tableOfImage (now (image .entry)))) tai))) r (now (offset .exit)) ⌝ }
 {
-    give::offset(table_of_image(image).tai_minus_utc_at(Tai(tai)), offset)
+    give::offset(inplace::tai_minus_utc_at(image, Tai(tai)), offset)
 }

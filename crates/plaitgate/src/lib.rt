@@ -12,5 +12,4 @@ pub mod gps;
 pub mod leap_lists;
 pub mod leap_tables;
 pub mod tai;
-mod take;
 pub mod utc;

@@ -1,0 +1,40 @@
+-- `gps_to_glonass` meets its contract: the size is tested, and then the UTC answer goes on.
+use mathlib.Core.Path.{ap, _∙_}
+use Prim.Native.Nat.{ℕ}
+use borrow.Author.Needs.{needs}
+use denote.Ref.{now}
+use Rattle.refusals.specs.Outcome.{Outcome}
+use Rattle.tables.specs.Slots.{entriesOf, validTable}
+use Rattle.tables.specs.declared.LeapTable.{LeapTable}
+use Rattle.images.specs.Image.{tableIn}
+use Rattle.conversions.specs.Conversions.{then, gpsToUtc, utcToGlonass, gpsToGlonass}
+use Rattle.inplace.proofs.Judged.{eight-first}
+use Rattle.inplace.proofs.OfSize.{of-size, not-of-size}
+use Rattle.inplace.proofs.gps_to_glonass.Statement.{statement}
+use Rattle.inplace.proofs.gps_to_glonass.Tie as tie
+
+returns : tie.Need-returns
+returns c =
+    let a = c .before .before .args in
+    not-of-size (now (a .image)) (λ (t : LeapTable). gpsToGlonass (entriesOf t) (a .gps .0)) (c .if1 .taken)
+
+gps-to-utc-requires : tie.Need-gps-to-utc-requires
+gps-to-utc-requires c κs = search needs
+
+to-glonass-requires : tie.Need-to-glonass-requires
+to-glonass-requires c κs = search needs
+
+of-requires : tie.Need-of-requires
+of-requires c κs = search needs
+
+returns-2 : tie.Need-returns-2
+returns-2 c =
+    let a = c .before .before .before .before .before .args in
+    let t = tableIn (now (a .image)) in
+    c .of .ensures ∙ c .before .to-glonass .ensures ∙ ap (λ (o : Outcome ℕ). then o utcToGlonass) (c .before .before .gps-to-utc .ensures)
+    ∙ eight-first (validTable t) (gpsToUtc (entriesOf t) (a .gps .0)) utcToGlonass
+    ∙ of-size (now (a .image)) (λ (t : LeapTable). gpsToGlonass (entriesOf t) (a .gps .0)) (c .before .before .before .if1 .left)
+
+pub gps-to-glonass-spec : {M : Type 1} → statement M
+gps-to-glonass-spec =
+    tie.close (tie.spec returns gps-to-utc-requires to-glonass-requires of-requires returns-2)
