@@ -36,6 +36,7 @@ mod epoch;
 mod error;
 mod glonass;
 mod gps;
+mod list;
 mod scale;
 #[allow(unsafe_code)]
 mod sys;
@@ -47,6 +48,7 @@ pub use convert::{glonass_to_gps, glonass_to_utc, gps_to_glonass, gps_to_utc, ut
 pub use duration::{Duration, DurationParts};
 pub use epoch::*;
 pub use error::{Error, Result};
+pub use list::LeapList;
 pub use scale::{Glonass, Gps, Tai, Utc};
 pub use table::{LeapEntry, LeapSeconds, LeapSecondsProvider, LeapTable, RUNTIME_CAPACITY};
 

@@ -71,35 +71,35 @@ macro_rules! of_numbers {
     };
 }
 
-/// Functions that read a table: `name(inputs)(image)(inputs) -> (results)`, the image where C has it.
-macro_rules! of_an_image {
-    ($($name:ident($($before:ident: $early:ty),*)(image)($($after:ident: $late:ty),*)
-        -> ($($result:ident: $written:ty),+);)*) => {
+/// Functions that read a table or a list: `name(inputs)(bytes: &[u8])(inputs) -> (results)`, the bytes where C has them.
+macro_rules! of_bytes {
+    ($declared:ident: $($name:ident($($before:ident: $early:ty),*)($bytes:ident: $lent:ty)($($after:ident: $late:ty),*)
+        -> ($($result:ident: $written:ty),*);)*) => {
         $(
             #[inline]
-            pub fn $name($($before: $early,)* image: &Image, $($after: $late),*) -> Result<($($written),+)> {
+            pub fn $name($($before: $early,)* $bytes: $lent, $($after: $late),*) -> Result<($($written),*)> {
                 extern "C" {
                     #[link_name = concat!("plaitgate_", stringify!($name))]
-                    fn exported($($before: $early,)* image: *const u8, image_bytes: usize, $($after: $late,)*
-                        $($result: *mut $written),+) -> u32;
+                    fn exported($($before: $early,)* bytes: *const u8, count: usize, $($after: $late,)*
+                        $($result: *mut $written),*) -> u32;
                 }
-                $(let mut $result: $written = 0;)+
-                // SAFETY: the types are those of the header (tests::the_header). The image is lent, so it has its
-                // bytes and no result lies in it; each result has a place of its own. All outlive the call, which
-                // takes any bytes and keeps no pointer.
+                $(let mut $result: $written = 0;)*
+                // SAFETY: the types are those of the header (tests::the_header). The bytes are lent, so they are there
+                // and no result lies in them; each result has a place of its own. All outlive the call, which takes
+                // any bytes and keeps no pointer. A slice's pointer is never null.
                 let number = unsafe {
-                    exported($($before,)* image.as_ptr(), image.len(), $($after,)* $(&mut $result),+)
+                    exported($($before,)* $bytes.as_ptr(), $bytes.len(), $($after,)* $(&mut $result),*)
                 };
-                answer(number, ($($result),+))
+                answer(number, ($($result),*))
             }
         )*
         #[cfg(test)]
-        fn declared_of_an_image() -> Vec<String> {
+        fn $declared() -> Vec<String> {
             vec![$(tests::declaration(stringify!($name), &[
                 $(c_type(stringify!($early)).to_string(),)*
                 "const uint8_t *".to_string(), "size_t".to_string(),
                 $(c_type(stringify!($late)).to_string(),)*
-                $(format!("{} *", c_type(stringify!($written)))),+
+                $(format!("{} *", c_type(stringify!($written)))),*
             ])),*]
         }
     };
@@ -201,19 +201,28 @@ of_numbers! {
     builtin_gps_as_unix_seconds(gps: u64) -> (seconds: i64);
 }
 
-of_an_image! {
-    table_len()(image)() -> (len: u64);
-    table_is_empty()(image)() -> (yes: u8);
-    table_entry_at()(image)(place: u64) -> (found: u8, tai_nanos: u64, tai_minus_utc: i32);
-    table_last_update()(image)() -> (found: u8, tai: u64);
-    table_current_tai_minus_utc()(image)() -> (offset: i32);
-    table_tai_minus_utc_at()(image)(tai: u64) -> (offset: i32);
-    gps_to_utc(gps: u64)(image)() -> (utc: u64);
-    utc_to_gps(utc: u64)(image)() -> (gps: u64);
-    glonass_to_gps(glonass: u64)(image)() -> (gps: u64);
-    gps_to_glonass(gps: u64)(image)() -> (glonass: u64);
-    gps_from_unix_seconds(seconds: i64)(image)() -> (gps: u64);
-    gps_as_unix_seconds(gps: u64)(image)() -> (seconds: i64);
+of_bytes! { declared_of_images:
+    table_len()(image: &Image)() -> (len: u64);
+    table_is_empty()(image: &Image)() -> (yes: u8);
+    table_entry_at()(image: &Image)(place: u64) -> (found: u8, tai_nanos: u64, tai_minus_utc: i32);
+    table_last_update()(image: &Image)() -> (found: u8, tai: u64);
+    table_current_tai_minus_utc()(image: &Image)() -> (offset: i32);
+    table_tai_minus_utc_at()(image: &Image)(tai: u64) -> (offset: i32);
+    gps_to_utc(gps: u64)(image: &Image)() -> (utc: u64);
+    utc_to_gps(utc: u64)(image: &Image)() -> (gps: u64);
+    glonass_to_gps(glonass: u64)(image: &Image)() -> (gps: u64);
+    gps_to_glonass(gps: u64)(image: &Image)() -> (glonass: u64);
+    gps_from_unix_seconds(seconds: i64)(image: &Image)() -> (gps: u64);
+    gps_as_unix_seconds(gps: u64)(image: &Image)() -> (seconds: i64);
+}
+
+of_bytes! { declared_of_lists:
+    list_check()(entries: &[u8])() -> ();
+    list_len()(entries: &[u8])() -> (len: u64);
+    list_is_empty()(entries: &[u8])() -> (yes: u8);
+    list_last_update()(entries: &[u8])() -> (found: u8, tai: u64);
+    list_current_tai_minus_utc()(entries: &[u8])() -> (offset: i32);
+    list_tai_minus_utc_at()(entries: &[u8])(tai: u64) -> (offset: i32);
 }
 
 /// The four functions that write an image.

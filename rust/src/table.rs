@@ -21,7 +21,9 @@ impl LeapEntry {
         LeapEntry { tai_nanos, tai_minus_utc }
     }
 
-    fn bytes(self) -> [u8; ENTRY_BYTES] {
+    /// The entry in a list of bytes ([`LeapList`](crate::LeapList)): 8 of the threshold, 4 of the offset, low byte first.
+    #[must_use]
+    pub fn to_bytes(self) -> [u8; 12] {
         let mut bytes = [0; ENTRY_BYTES];
         bytes[..8].copy_from_slice(&self.tai_nanos.to_le_bytes());
         bytes[8..].copy_from_slice(&self.tai_minus_utc.to_le_bytes());
@@ -87,7 +89,7 @@ impl LeapTable {
         const MOST: usize = RUNTIME_CAPACITY + 1;
         let mut list = [0; MOST * ENTRY_BYTES];
         let places = list.chunks_exact_mut(ENTRY_BYTES);
-        places.zip(entries).for_each(|(place, entry)| place.copy_from_slice(&entry.bytes()));
+        places.zip(entries).for_each(|(place, entry)| place.copy_from_slice(&entry.to_bytes()));
         let image = sys::table_from_entries(&list[..entries.len().min(MOST) * ENTRY_BYTES])?;
         Ok(LeapTable { image })
     }

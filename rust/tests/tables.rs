@@ -1,7 +1,7 @@
 //! Tables: what is taken, what is refused, and that a refusal leaves a table as it was.
 
 use plaitgate::{
-    gps_to_glonass, utc_to_gps, Error, Gps, LeapEntry, LeapSeconds, LeapSecondsProvider, LeapTable, Tai, Utc,
+    gps_to_glonass, utc_to_gps, Error, Gps, LeapEntry, LeapList, LeapSeconds, LeapSecondsProvider, LeapTable, Tai, Utc,
 };
 
 /// A table of so many entries, a second apart, with offsets from `first` on.
@@ -162,4 +162,45 @@ fn any_table_can_be_asked_through_the_trait() {
 fn a_table_shows_its_entries() {
     let table = LeapTable::from_entries(&[LeapEntry::new(4, 20)]).unwrap();
     assert_eq!(format!("{table:?}"), "[LeapEntry { tai_nanos: 4, tai_minus_utc: 20 }]");
+}
+
+fn bytes_of(entries: &[LeapEntry]) -> Vec<u8> {
+    entries.iter().flat_map(|entry| entry.to_bytes()).collect()
+}
+
+#[test]
+fn a_lent_list_has_no_limit_and_answers_as_a_table() {
+    for count in [1, 2, 19, 64, 65, 200] {
+        let entries = rising(count, -3);
+        let bytes = bytes_of(&entries);
+        let list = LeapList::try_from_slice(&bytes).expect("a rising list is taken");
+        assert_eq!((list.len(), list.is_empty(), list.as_bytes()), (count, false, &bytes[..]));
+        assert_eq!(list.current_tai_minus_utc(), entries[count - 1].tai_minus_utc);
+        let last = Tai::from_nanos(entries[count - 1].tai_nanos);
+        assert_eq!(list.last_update(), (count > 1).then_some(last));
+        for entry in &entries {
+            assert_eq!(list.tai_minus_utc_at(Tai::from_nanos(entry.tai_nanos)), entry.tai_minus_utc);
+        }
+        if let Ok(table) = LeapTable::from_entries(&entries) {
+            for tai in (0..count as u64 * 1_000_000_000).step_by(333_333_333).map(Tai::from_nanos) {
+                assert_eq!(list.tai_minus_utc_at(tai), table.tai_minus_utc_at(tai));
+            }
+        }
+    }
+}
+
+#[test]
+fn a_lent_list_is_refused_as_a_table_is_but_for_its_length() {
+    let mut entries = rising(100, 5);
+    let bytes = bytes_of(&entries);
+    assert_eq!(LeapList::try_from_slice(&[]), Err(Error::EmptyTable));
+    for short in 1..12 {
+        assert_eq!(LeapList::try_from_slice(&bytes[short..]), Err(Error::BadTable));
+    }
+    entries[70].tai_minus_utc += 1;
+    assert_eq!(LeapList::try_from_slice(&bytes_of(&entries)), Err(Error::NonUnitIncrement));
+    entries[69].tai_nanos = entries[70].tai_nanos;
+    assert_eq!(LeapList::try_from_slice(&bytes_of(&entries)), Err(Error::NotStrictlyAscending));
+    let last = [LeapEntry::new(0, i32::MAX), LeapEntry::new(1, 0)];
+    assert_eq!(LeapList::try_from_slice(&bytes_of(&last)), Err(Error::OffsetOverflow));
 }

@@ -36,7 +36,7 @@ fn declared_here() -> BTreeSet<String> {
         ("table_try_extend", "uint8_t *, size_t, uint64_t, int32_t"),
     ];
     let writing = writing.into_iter().map(|(name, types)| declaration(name, &[types.to_string()]));
-    declared_of_numbers().into_iter().chain(declared_of_an_image()).chain(writing).collect()
+    declared_of_numbers().into_iter().chain(declared_of_images()).chain(declared_of_lists()).chain(writing).collect()
 }
 
 #[test]
