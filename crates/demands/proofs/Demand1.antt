@@ -26,7 +26,7 @@ use Rattle.builtin.specs.Builtin.{builtin}
 use Rattle.listed.specs.Listed.{ofListed}
 use Rattle.plaitgate.specs.Civil.{fields}
 use Rattle.plaitgate.specs.Tables.{leaves, changed, bit, foundEntry, foundCount}
-use Rattle.demands.specs.RefusalsLeave.{OfScales, OfCivilTimes, OfConversions, OfReadTables, OfReadLists, OfWrittenTables, OfTablesByValue}
+use Rattle.demands.specs.RefusalsLeave.{OfScales, OfCivilTimes, OfConversions, OfReadTables, OfReadLists, OfWrittenTables, OfTables}
 
 -- beside a refusal a host is given zeros
 zeros-beside : {A : Type 0} {zeros value : A} {number : ℕ} (o : Outcome A) → Gives zeros o number value → number ≢ 0 → value ≡ zeros
@@ -149,10 +149,12 @@ of-written-tables = record {
     sized-fails : (b : List ℕ) (x y : ℕ × List ℕ) → length b ≢ imageBytes → y ≡ cond (sized b) x y
     sized-fails b x y s = rw (ne-eqb (length b) imageBytes s)
 
-pub of-tables-by-value : OfTablesByValue
-of-tables-by-value = record {
+pub of-tables : OfTables
+of-tables = record {
   try-extend = λ κ a x e p n.
       ap (λ (y : ℕ × LeapTable). y .1) p ∙ refusal-keeps (a .0) (a .1 .0) (λ z. n (ap (λ (y : ℕ × LeapTable). y .0) p ∙ z));
   from-lists = λ κ a x e p n.
       ap (λ (y : ℕ × LeapTable). y .1) p ∙ made-empty (building (paired (now (a .0)) (now (a .1 .0)))) (λ z. n (ap (λ (y : ℕ × LeapTable). y .0) p ∙ z));
+  try-extend-in-place = λ before after e x p n.
+      ap (λ (y : ℕ × LeapTable). y .1) p ∙ refusal-keeps before e (λ z. n (ap (λ (y : ℕ × LeapTable). y .0) p ∙ z));
 }

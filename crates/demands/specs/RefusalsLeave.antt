@@ -10,7 +10,10 @@ use denote.Ref.{now}
 use Rattle.counts.specs.declared.units.DurationParts.{DurationParts}
 use Rattle.tables.specs.Answers.{takenIn}
 use Rattle.tables.specs.Entries.{entry}
-use Rattle.tables.specs.Slots.{tableOf}
+use Rattle.tables.specs.Slots.{tableOf, extended}
+use Rattle.tables.specs.declared.LeapEntry.{LeapEntry}
+use Rattle.tables.specs.declared.LeapTable.{LeapTable}
+use Rattle.tables.specs.declared.Taken.{Taken}
 use Rattle.tables.proofs.LeapTable.try_extend.Reads as by-value-try-extend-contract
 use Rattle.tables.proofs.LeapTable.from_lists.Reads as by-value-from-lists-contract
 use Rattle.images.specs.Image.{imageBytes, imageOf}
@@ -166,7 +169,9 @@ pub record OfWrittenTables : Type 0 where
   pub from-entries-no-image : (κ : _) (a : _) (k : ℕ) (e : _) → table-from-entries-contract.Post κ a k e
       → length (now (a .1 .0)) ≢ imageBytes → now (e .1 .0) ≡ now (a .1 .0)
 
--- a table by value: a refused extension answers the table that came, its list of entries, its length and all 64 slots; a refused building one with no entry
-pub record OfTablesByValue : Type 0 where
+-- a table: a refused extension answers the table that came, its list of entries, its length and all 64 slots; a refused building one with no entry
+pub record OfTables : Type 0 where
   pub try-extend : (κ : _) (a : _) (x : _) (e : _) → by-value-try-extend-contract.Post κ a x e → takenIn (x .answer) ≢ 0 → x .table ≡ a .0
   pub from-lists : (κ : _) (a : _) (x : _) (e : _) → by-value-from-lists-contract.Post κ a x e → takenIn (x .answer) ≢ 0 → x .table ≡ tableOf []
+  -- in place, by what the contract of `lent::try_extend` says of its answer and of the table before and afterwards
+  pub try-extend-in-place : (before after : LeapTable) (e : LeapEntry) (x : Taken) → (takenIn x, after) ≡ extended before e → takenIn x ≢ 0 → after ≡ before
