@@ -1,6 +1,6 @@
 -- `inner::pass_over`: each turn copies the entry at i out of the lent list and calls `pass_on` on the pass and the copy.
 use mathlib.Core.Path.{_≡_, refl, sym, ap}
-use Prim.Native.Nat.{ℕ, _+_, _^_, _<_}
+use Prim.Native.Nat.{ℕ, _<_}
 use mathlib.Core.List.{List, [], _∷_}
 use mathlib.Core.WellFounded.{InvImage·wf}
 use lib.ListN.{length}
@@ -24,7 +24,7 @@ use types.Run.{Below, again, loops, look, look-raw, init, store, forget, stop, h
 use sound.WpLaws.{fmOf, WpFn-mono}
 use denote.RattleType.{owns}
 use denote.Laws.{Is}
-use denote.Plain.{uint-vals, uint-tells, uint-makes}
+use denote.Plain.{uint-vals, uint-tells}
 use denote.Builtin.{u64}
 use denote.Ref.{RefT}
 use denote.Slice.{sliceVal, ShrSlice, Room, slice-vals, shr-slice-tells}
@@ -45,7 +45,7 @@ use Rattle.lent.specs.Pass.{seenIn, begun, after}
 use Rattle.lent.specs.declared.inner.Pass.{Pass}
 use Rattle.lent.proofs.inner.Pass as P
 use Rattle.lent.proofs.inner.Pass.Laws as P′
-use Rattle.lent.proofs.Values.{ev, pv, listᴹ}
+use Rattle.lent.proofs.Values.{pv, listᴹ}
 use Rattle.lent.proofs.Passing.{Said}
 use Rattle.lent.proofs.Told.{calls-told}
 use Rattle.lent.proofs.LentEntries.{Entries, entry-opens, entry-shuts, tests}
@@ -62,31 +62,20 @@ use Rattle.lent.proofs.inner.pass_over as this
 use Rattle.lent.proofs.inner.pass_over.Statement as stated
 use Rattle.lent.proofs.inner.pass_over.Code as code
 use Rattle.lent.proofs.inner.pass_over.Code.Mir as mir
+use Rattle.lent.proofs.inner.pass_over.Proof.Callees.{Beginning, to-begin, hands-begin, PassingOn, to-on, hands-on}
 use Rattle.lent.proofs.inner.pass_over.Proof.Turns.{State, starts, at-i, left, below, scaled, next-fits, count-fits, next, less, ends}
 mod Turns
+mod Callees
 
 abbrev stayed : Stays (this.ended .signature .params) (this.ended .kept)
 stayed = (stay-dropped (shrSliceOf (0 ∷ []) tt (plain (λ _. E.the-row))) yes, (stay-dropped (plain (λ _. u64)) yes, tt))
 
 module _ {M : Type 1} (𝓤 : URA M) (H : Heap 𝓤) (A : Atoms 𝓤) (W : Given 𝓤 H A) (at-mem : Memory → SProp 𝓤) (run : Routine → Fun 𝓤) where
-  -- the callees, and what they are handed, had for nothing
   abbrev Begin : Contract 𝓤
-  Begin = tripleOf 𝓤 H A begin.signature (begin.spec 𝓤 H A at-mem run)
+  Begin = Beginning 𝓤 H A at-mem run
 
   abbrev On : Contract 𝓤
-  On = tripleOf 𝓤 H A on.signature (on.spec 𝓤 H A at-mem run)
-
-  abbrev to-begin : ℕ → Begin .Ghost
-  to-begin t = ((tt, tt, tt, (t, tt), (vint w64 t ∷ [], tt)), tt)
-
-  hands-begin : (t : ℕ) → Is u64 t (vint w64 t ∷ []) → ent 𝓤 (emp 𝓤) (Begin .pre (to-begin t))
-  hands-begin t g = qed W [] ∵ nothing ! $ owned ! u64 (Is u64) (uint-makes 𝓤 H A W w64) t _ g $ fjoin ! $ nothing ! $ join ! $ nothing ! $ move ! (1 ∷ 0 ∷ []) $ done !
-
-  abbrev to-on : Pass → LeapEntry → On .Ghost
-  to-on p e = ((tt, tt, tt, (p, (e, tt)), (pv p ∷ [], (ev e ∷ [], tt))), tt)
-
-  hands-on : (p : Pass) (e : LeapEntry) → Is P.the-row p (pv p ∷ []) → Is E.the-row e (ev e ∷ []) → p .count + 1 < 2 ^ 64 → ent 𝓤 (emp 𝓤) (On .pre (to-on p e))
-  hands-on p e g ge l = qed W [] ∵ says ! l $ nothing ! $ owned ! E.the-row (Is E.the-row) (LL.makes E.the-type E′.the-plain 𝓤 H A) e _ ge $ fjoin ! $ owned ! P.the-row (Is P.the-row) (LL.makes P.the-type P′.the-plain 𝓤 H A) p _ g $ fjoin ! $ nothing ! $ done !
+  On = PassingOn 𝓤 H A at-mem run
 
   module _ (κ : Lft) (q : Share) (b o : ℕ) (γ : GName) (ys : List LeapEntry) (t : ℕ) (gn : Room E.the-row (length ys)) (gt : Is u64 t (vint w64 t ∷ [])) where
     abbrev x : RefT (List LeapEntry)
@@ -147,9 +136,9 @@ module _ {M : Type 1} (𝓤 : URA M) (H : Heap 𝓤) (A : Atoms 𝓤) (W : Given
             -- [the entry's cell; what it owns; the others; what shuts; the entries; _8 at 5; _7 at 7; …]
             assigns ! (of-opd ! (load ! (from ! (hop ! (look ! 7 refl) (stop !))) (look-raw ! 0 refl))) (from ! (stop !)) (init ! 5 refl (LL.lawful E.the-type E′.the-laws 𝓤 H A W .typed (at-i t ys s) _ ge .0)) $
             entry-shuts ! tt ys (s .i) b o (below t ys s y) q′ $
-            use0 W (raw (On .pre (to-on (s .pass) (at-i t ys s)))) (hands-on (s .pass) (at-i t ys s) (s .is-pass) ge (count-fits t ys s y (gn .0))) $
+            use0 W (raw (On .pre (to-on 𝓤 H A at-mem run (s .pass) (at-i t ys s)))) (hands-on 𝓤 H A at-mem run W (s .pass) (at-i t ys s) (s .is-pass) ge (count-fits t ys s y (gn .0))) $
             -- [what `pass_on` asks; the token; the entries; _8 at 3; …; _3 at 13; …]
-            calls-told ! (fmOf 𝓤 H (W .laws) 𝓣) on.ended (on.clauses 𝓤 H A at-mem run) known-on (to-on (s .pass) (at-i t ys s)) (λ r ws. seenIn r ≡ after (seenIn (s .pass)) (at-i t ys s)) (λ r ws. id⊢ 𝓤 _)
+            calls-told ! (fmOf 𝓤 H (W .laws) 𝓣) on.ended (on.clauses 𝓤 H A at-mem run) known-on (to-on 𝓤 H A at-mem run (s .pass) (at-i t ys s)) (λ r ws. seenIn r ≡ after (seenIn (s .pass)) (at-i t ys s)) (λ r ws. id⊢ 𝓤 _)
             (and-then ! (load ! (from ! (stop !)) (look ! 13 refl)) (and-then ! (load ! (from ! (stop !)) (look ! 3 refl)) (no-more !))) (λ v r ws is g. drop ! $ drop ! $ drop ! $
             land ! (from ! (stop !)) (store ! 12 refl (LL.lawful P.the-type P′.the-laws 𝓤 H A W .typed r _ g .0)) $ rewrite ! 12 (λ (u : Val). ‵ (fat fullShare P′.mir l₃ 0 u)) (ap only (LL.tells P.the-type P′.the-laws r (v ∷ []) g)) refl $
             assigns-last ! (bin ! (load ! (from ! (stop !)) (look ! 10 refl)) (lit ! tt) (record { fits = next-fits t ys s y (gn .0) })) (from ! (stop !)) (store ! 10 refl (tt, record { fits = next-fits t ys s y (gn .0) })) $
@@ -170,9 +159,9 @@ module _ {M : Type 1} (𝓤 : URA M) (H : Heap 𝓤) (A : Atoms 𝓤) (W : Given
           qed W ((‵ (flft κ q) ⊛ ‵ ftrue) ∷ ‵ (owns (ShrSlice (named 0) κ E.the-row ∷ u64 ∷ []) (x, (t, tt)) at) ∷ []) ∵ enter ! (𝓣 .C) (𝓣 .Λ) code.function (sliceVal (b, o) n ∷ vint w64 t ∷ []) _ $
           alloc1 ! (λ l₀. alloc1 ! (λ l₁. alloc1 ! (λ l₂. alloc1 ! (λ l₃. alloc1 ! (λ l₄. alloc1 ! (λ l₅. alloc1 ! (λ l₆. alloc1 ! (λ l₇. alloc1 ! (λ l₈. alloc0 ! $ params1 ! $
           pass1 ! (init ! 14 refl (tt, (tt, (record { fits = gn .0 }, tt)))) $ pass1 ! (init ! 12 refl (tt, record { fits = gt .1 })) $ pass0 ! $
-          use0 W (raw (Begin .pre (to-begin t))) (hands-begin t gt) $
+          use0 W (raw (Begin .pre (to-begin 𝓤 H A at-mem run t))) (hands-begin 𝓤 H A at-mem run W t gt) $
           -- [what `begin` asks; _8 at 1; …; _3 at 11; _2 at 13; …]
-          calls-told ! (fmOf 𝓤 H (W .laws) 𝓣) begin.ended (begin.clauses 𝓤 H A at-mem run) known-begin (to-begin t) (λ r ws. seenIn r ≡ begun t) (λ r ws. id⊢ 𝓤 _)
+          calls-told ! (fmOf 𝓤 H (W .laws) 𝓣) begin.ended (begin.clauses 𝓤 H A at-mem run) known-begin (to-begin 𝓤 H A at-mem run t) (λ r ws. seenIn r ≡ begun t) (λ r ws. id⊢ 𝓤 _)
           (and-then ! (load ! (from ! (stop !)) (look ! 13 refl)) (no-more !)) (λ v r ws is g. drop ! $ drop ! $ drop ! $
           land ! (from ! (stop !)) (init ! 10 refl (LL.lawful P.the-type P′.the-laws 𝓤 H A W .typed r _ g .0)) $ rewrite ! 10 (λ (u : Val). ‵ (fat fullShare P′.mir l₃ 0 u)) (ap only (LL.tells P.the-type P′.the-laws r (v ∷ []) g)) refl $
           assigns ! (of-opd ! (lit ! tt)) (from ! (stop !)) (init ! 8 refl (tt, record { fits = lit< tt })) $
@@ -197,5 +186,5 @@ pass-over-spec 𝓤 H 𝓜 𝓖 𝓡 =
     entered 𝓤 H (tripleOf 𝓤 H (𝓖 .A) this.signature (this.spec 𝓤 H (𝓖 .A) (𝓜 .mem) (𝓡 .run)))
     (tables 𝓤 H 𝓜 𝓡 code.env .C) (tables 𝓤 H 𝓜 𝓡 code.env .Λ) #this code.function (code.unfolded 𝓤 H 𝓜 𝓡)
     (meets 𝓤 H (𝓖 .A) (givenOf 𝓤 H 𝓜 𝓖) (𝓜 .mem) (𝓡 .run) (tablesOf 𝓤 H 𝓜 (tables 𝓤 H 𝓜 𝓡 code.env))
-    (cited 𝓤 H (Begin 𝓤 H (𝓖 .A) (givenOf 𝓤 H 𝓜 𝓖) (𝓜 .mem) (𝓡 .run)) 𝓜 𝓡 code.env #begin begin-def.routine code.calls-lent·inner·begin (begin-thm.met 𝓤 H 𝓜 𝓖 𝓡))
-    (cited 𝓤 H (On 𝓤 H (𝓖 .A) (givenOf 𝓤 H 𝓜 𝓖) (𝓜 .mem) (𝓡 .run)) 𝓜 𝓡 code.env #on on-def.routine code.calls-lent·inner·pass-on (on-thm.met 𝓤 H 𝓜 𝓖 𝓡)))
+    (cited 𝓤 H (Beginning 𝓤 H (𝓖 .A) (𝓜 .mem) (𝓡 .run)) 𝓜 𝓡 code.env #begin begin-def.routine code.calls-lent·inner·begin (begin-thm.met 𝓤 H 𝓜 𝓖 𝓡))
+    (cited 𝓤 H (PassingOn 𝓤 H (𝓖 .A) (𝓜 .mem) (𝓡 .run)) 𝓜 𝓡 code.env #on on-def.routine code.calls-lent·inner·pass-on (on-thm.met 𝓤 H 𝓜 𝓖 𝓡)))
