@@ -8,7 +8,7 @@ use native.Mathlib.Nat.{zero-add, add-assoc}
 use native.Mathlib.Decide.{decLe}
 use borrow.Author.Tests.{le-leb, lt-leb, le-ltb}
 use lib.Dec.{leb}
-use lib.IntN.{ℤ, pos}
+use lib.IntN.{pos}
 use Rattle.calendar.specs.Formula.{formula, era, yoe, doy, doe}
 use Rattle.tables.specs.Entries.{Entry, threshold, offset, entry, neighbours, offsetAt, lastUpTo}
 use Rattle.tables.proofs.Passed as entries

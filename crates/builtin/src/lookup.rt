@@ -7,7 +7,7 @@ ghost use Prim.Native.Nat.{_≤_};
 ghost use lib.Dec.{leb};
 ghost use Rattle.counts.specs.Answers.{countIn};
 ghost use Rattle.tables.specs.Entries.{offsetAt};
-ghost use Rattle.conversions.specs.Conversions.{gpsToUtc, utcToGps, glonassToGps, unixToGps};
+ghost use Rattle.conversions.specs.Conversions.{firstReading, secondReading, gpsToUtc, utcToGps, glonassToGps, unixToGps};
 ghost use Rattle.builtin.specs.Builtin.{builtin};
 ghost use Rattle.builtin.specs.Passed.{passed};
 use conversions::inner;
@@ -125,20 +125,26 @@ pub fn gps_to_utc(gps: u64) -> CountAnswer
     }
 }
 
-pub fn utc_to_gps(utc: u64) -> CountAnswer
-    ensures { λ r. ⌜ countIn r ≡ utcToGps builtin utc ⌝ }
+// The offset by which a UTC count is converted: looked up at a, and by what is found there at b.
+fn offset_of_utc(utc: u64) -> i32
+    ensures { λ r. ⌜ r ≡ offsetAt builtin (secondReading utc (offsetAt builtin (firstReading utc)) (firstReading utc)) ⌝ }
 {
     let a = inner::first_reading(utc);
     let n1 = offset_at(a);
-    let b = inner::second_reading(utc, n1, a);
-    inner::gps_by(offset_at(b), utc)
+    offset_at(inner::second_reading(utc, n1, a))
+}
+
+pub fn utc_to_gps(utc: u64) -> CountAnswer
+    ensures { λ r. ⌜ countIn r ≡ utcToGps builtin utc ⌝ }
+{
+    inner::gps_by(offset_of_utc(utc), utc)
 }
 
 pub fn glonass_to_gps(glonass: u64) -> CountAnswer
     ensures { λ r. ⌜ countIn r ≡ glonassToGps builtin glonass ⌝ }
 {
     match inner::glonass_to_utc(glonass) {
-        CountAnswer::Count(utc) => utc_to_gps(utc),
+        CountAnswer::Count(utc) => inner::gps_by(offset_of_utc(utc), utc),
         CountAnswer::Refused(why) => CountAnswer::Refused(why),
     }
 }
@@ -147,7 +153,7 @@ pub fn unix_to_gps(seconds: i64) -> CountAnswer
     ensures { λ r. ⌜ countIn r ≡ unixToGps builtin seconds ⌝ }
 {
     match unix::from_unix_seconds(seconds) {
-        CountAnswer::Count(utc) => utc_to_gps(utc),
+        CountAnswer::Count(utc) => inner::gps_by(offset_of_utc(utc), utc),
         CountAnswer::Refused(why) => CountAnswer::Refused(why),
     }
 }

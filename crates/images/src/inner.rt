@@ -18,17 +18,17 @@ use tables::Taken;
 // A table has 64 slots.
 pub const SLOTS: usize = 64;
 
-const LENGTH_BYTES: usize = 8;
+pub const LENGTH_BYTES: usize = 8;
 
 pub const THRESHOLD_BYTES: usize = 8;
 
-const OFFSET_BYTES: usize = 4;
+pub const OFFSET_BYTES: usize = 4;
 
 // An entry of a list: 12.
 pub const ENTRY_BYTES: usize = THRESHOLD_BYTES + OFFSET_BYTES;
 
 // Where the offsets of an image begin: 520.
-const OFFSETS_AT: usize = LENGTH_BYTES + SLOTS * THRESHOLD_BYTES;
+pub const OFFSETS_AT: usize = LENGTH_BYTES + SLOTS * THRESHOLD_BYTES;
 
 // The bytes of an image: 776.
 pub const IMAGE_BYTES: usize = OFFSETS_AT + SLOTS * OFFSET_BYTES;

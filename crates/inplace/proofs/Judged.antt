@@ -28,7 +28,7 @@ module _ (t : LeapTable) (tai : ℕ) where
     pub not-valid : valid (entriesOf t) ≡ false → refused 8 ≡ answer
     not-valid v = rw (le-leb (t .len) 64 few, v)
 
-    pub all-passed : {i before in-force one-more : ℕ} → Pass (t .thresholds) (t .offsets) tai i before in-force one-more → i ≡ t .len
+    pub all-passed : {i before in-force one-more : ℕ} → Pass t tai i before in-force one-more → i ≡ t .len
         → answered (toZ w32 in-force) ≡ answer
     all-passed {i} p e =
         let v : valid (entriesOf t) ≡ true = rw e at (p .passes) in

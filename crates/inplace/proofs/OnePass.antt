@@ -17,6 +17,7 @@ use mir.Facts.{toZ-ofZ, sfits-widen}
 use Rattle.counts.proofs.Signed.{bits-tell}
 use Rattle.tables.specs.Entries.{Entry, threshold, offset, entry, neighbours, follows, valid, lastUpTo, offsetAt}
 use Rattle.tables.specs.Slots.{slotAt, slots}
+use Rattle.tables.specs.declared.LeapTable.{LeapTable}
 use Rattle.tables.proofs.FirstSlots.{slots-length, slot-is, one-more}
 use Rattle.tables.proofs.InForce.{rises}
 use Rattle.tables.proofs.Integers.{equal-yes, equal-no}
@@ -65,7 +66,13 @@ more-fits (pos n) f = record { sfits = omega (arith, f .sfits) }
 more-fits (negsuc zero) f = record { sfits = omega arith }
 more-fits (negsuc (suc n)) f = record { sfits = simp (lt-ltb 1 (suc (suc n)) (omega arith)) (omega (arith, f .sfits)) }
 
-module _ (xs : List ℕ) (zs : List ℤ) (t : ℕ) where
+module _ (table : LeapTable) (t : ℕ) where
+  abbrev xs : List ℕ
+  xs = table .thresholds
+
+  abbrev zs : List ℤ
+  zs = table .offsets
+
   -- the offsets are known by their bits
   pub record Pass (i before in-force one-more : ℕ) : Type 0 where
     pub some : 1 ≤ i

@@ -5,6 +5,10 @@ ghost use lib.ListN.{length, getD, take, drop};
 ghost use lib.IntN.{pos};
 ghost use Rattle.tables.specs.Slots.{slotAt};
 ghost use Rattle.images.specs.Image.{numberIn, imageBytes, tableIn};
+use images::inner::LENGTH_BYTES;
+use images::inner::OFFSET_BYTES;
+use images::inner::OFFSETS_AT;
+use images::inner::THRESHOLD_BYTES;
 use images::inner::signed;
 use tables::LeapEntry;
 
@@ -50,7 +54,7 @@ pub fn threshold(image: &[u8], i: usize) -> u64
     requires { ⌜ i < 64 ⌝ }
     ensures { λ r. ⌜ r ≡ getD (tableIn (now (image .entry)) .thresholds) i 0 ⌝ }
 {
-    number_in_8(image, 8 + 8 * i)
+    number_in_8(image, LENGTH_BYTES + THRESHOLD_BYTES * i)
 }
 
 // The offset in slot i.
@@ -59,7 +63,7 @@ pub fn offset(image: &[u8], i: usize) -> i32
     requires { ⌜ i < 64 ⌝ }
     ensures { λ r. ⌜ r ≡ getD (tableIn (now (image .entry)) .offsets) i (pos 0) ⌝ }
 {
-    signed(number_in_4(image, 520 + 4 * i) as u32)
+    signed(number_in_4(image, OFFSETS_AT + OFFSET_BYTES * i) as u32)
 }
 
 // The entry in slot i.

@@ -1,5 +1,4 @@
 // Conversions by a table that the host holds as an image.
-ghost use mathlib.Core.Path.{_≡_};
 ghost use lib.IntN.{pos};
 ghost use Rattle.refusals.specs.Outcome.{Gives};
 ghost use Rattle.tables.specs.Slots.{entriesOf, ofValid};

@@ -1,52 +1,24 @@
--- `lookup::utc_to_gps` looks an offset up at a, and by it at b, and goes by the second.
+-- `lookup::utc_to_gps` goes by the offset of the second lookup.
 use mathlib.Core.Path.{ap, _∙_}
+use borrow.Author.Needs.{needs}
 use lib.IntN.{ℤ}
 use mir.Syntax.{w32}
 use mir.Val.{SFits}
 use mir.Facts.{toZ-ofZ}
-use Rattle.tables.specs.Entries.{offsetAt}
-use Rattle.conversions.specs.Conversions.{firstReading, secondReading, gpsBy}
-use borrow.Author.Needs.{needs}
-use Rattle.builtin.specs.Builtin.{builtin}
+use Rattle.conversions.specs.Conversions.{gpsBy}
 use Rattle.builtin.proofs.lookup.utc_to_gps.Statement.{statement}
 use Rattle.builtin.proofs.lookup.utc_to_gps.Tie as tie
 
-first-reading-requires : tie.Need-first-reading-requires
-first-reading-requires c κs = search needs
-
-offset-at-requires : tie.Need-offset-at-requires
-offset-at-requires c κs = search needs
-
-second-reading-requires : tie.Need-second-reading-requires
-second-reading-requires c κs = search needs
-
-offset-at-requires-2 : tie.Need-offset-at-requires-2
-offset-at-requires-2 c κs = search needs
+offset-of-utc-requires : tie.Need-offset-of-utc-requires
+offset-of-utc-requires c κs = search needs
 
 gps-by-requires : tie.Need-gps-by-requires
 gps-by-requires c κs = search needs
 
 returns : tie.Need-returns
 returns c =
-    let second = c .before .before in
-    let first = second .before .before in
-    let utc = first .before .args .utc in
-    let fits : SFits w32 (second .before .offset-at .result) = search needs in
-    let fits2 : SFits w32 (c .before .offset-at2 .result) = search needs in
-    let n1 = toZ-ofZ fits ∙ second .before .offset-at .ensures ∙ ap (offsetAt builtin) (first .first-reading .ensures) in
-    let b =
-    second .second-reading .ensures
-    ∙ ap (λ (n : ℤ). secondReading utc n (first .first-reading .result)) n1
-    ∙ ap (secondReading utc (offsetAt builtin (firstReading utc))) (first .first-reading .ensures) in
-    c .gps-by .ensures ∙ ap (λ (n : ℤ). gpsBy n utc) (toZ-ofZ fits2 ∙ c .before .offset-at2 .ensures ∙ ap (offsetAt builtin) b)
+    let fits : SFits w32 (c .before .offset-of-utc .result) = search needs in
+    c .gps-by .ensures ∙ ap (λ (n : ℤ). gpsBy n (c .before .before .args .utc)) (toZ-ofZ fits ∙ c .before .offset-of-utc .ensures)
 
 pub utc-to-gps-spec : {M : Type 1} → statement M
-utc-to-gps-spec =
-    tie.close
-    (tie.spec
-    first-reading-requires
-    offset-at-requires
-    second-reading-requires
-    offset-at-requires-2
-    gps-by-requires
-    returns)
+utc-to-gps-spec = tie.close (tie.spec offset-of-utc-requires gps-by-requires returns)

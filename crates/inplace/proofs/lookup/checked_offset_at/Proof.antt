@@ -1,7 +1,6 @@
 -- `lookup::checked_offset_at` meets its contract: one pass tests the slots and finds the offset in force.
 use mathlib.Core.Path.{_≡_, sym, ap, _∙_}
 use mathlib.Core.Bool.{false, cond}
-use mathlib.Core.List.{List}
 use Prim.Native.Nat.{ℕ, _+_, _-_, _≤_, _<_}
 use native.Mathlib.Omega.{arith}
 use borrow.Author.Needs.{needs}
@@ -27,7 +26,7 @@ use Rattle.inplace.proofs.lookup.checked_offset_at.Tie as tie
 
 abbrev Inv-loop : tie.InvT-loop
 Inv-loop image tai n before₀ in-force₀ one-more₀ i₀ before in-force one-more i =
-    (i ≤ n) × Pass (tableIn image .thresholds) (tableIn image .offsets) tai i before in-force one-more
+    (i ≤ n) × Pass (tableIn image) tai i before in-force one-more
 
 abbrev μ-loop : tie.MeasureT-loop
 μ-loop image tai n before₀ in-force₀ one-more₀ i₀ before in-force one-more i = n - i
@@ -46,11 +45,10 @@ start c = c .before .before .before .before .before .before .before
 abbrev table : tie.At-loop Inv-loop μ-loop → LeapTable
 table c = tableIn (now (start c .args .image))
 
-len-is : (c : tie.At-loop Inv-loop μ-loop) → c .before .before .before .before .before .len .result ≡ table c .len
-len-is c = c .before .before .before .before .before .len .ensures
-
-few : (c : tie.At-loop Inv-loop μ-loop) → table c .len ≤ 64
-few c = omega (arith, len-is c, c .before .before .before .before .if1 .left)
+known : (c : tie.At-loop Inv-loop μ-loop) → (c .before .before .before .before .before .len .result ≡ table c .len) × (table c .len ≤ 64)
+known c =
+    let l = c .before .before .before .before .before .len .ensures in
+    (l, omega (arith, l, c .before .before .before .before .if1 .left))
 
 -- slots of which one does not follow the one before are refused
 refuse : (c : tie.In-loop Inv-loop μ-loop) → let at = c .before in let t = table at in
@@ -59,56 +57,47 @@ refuse : (c : tie.In-loop Inv-loop μ-loop) → let at = c .before in let t = ta
 refuse c v =
     let at = c .before in
     let b = now (start at .args .image) in
-    not-valid (table at) (start at .args .tai) (few at)
-    (v (table at .len) (omega (arith, len-is at)) (omega (arith, few at, thresholds-count b)) (omega (arith, few at, offsets-count b)))
+    not-valid (table at) (start at .args .tai) (known at .1)
+    (v (table at .len) (omega (arith, known at)) (omega (arith, known at, thresholds-count b)) (omega (arith, known at, offsets-count b)))
 
 given-is : (c : tie.After-offset2 Inv-loop μ-loop) → let at = c .before .before .before .before in
     toZ w32 (ofZ w32 (c .offset2 .result)) ≡ getD (table at .offsets) (at .loop .i) (pos 0)
 given-is c = toZ-ofZ (given-fits c) ∙ c .offset2 .ensures
 
-slot-fits : (c : tie.After-offset2 Inv-loop μ-loop) → let at = c .before .before .before .before in SFits w32 (getD (table at .offsets) (at .loop .i) (pos 0))
-slot-fits c = rw (c .offset2 .ensures) at (given-fits c)
-
-above : (c : tie.Else3 Inv-loop μ-loop) → let at = c .before .before .before in at .loop .before < getD (table at .thresholds) (at .loop .i) 0
-above c = omega (arith, c .before .threshold2 .ensures)
-
 equal-bits : (c : tie.Else4 Inv-loop μ-loop) → let at = c .before .before .before .before .before in
     ofZ w64 (getD (table at .offsets) (at .loop .i) (pos 0)) ≡ at .loop .one-more
 equal-bits c = ap (ofZ w64) (sym (given-is (c .before))) ∙ c .if4 .left
 
-in-thresholds : (c : tie.Else4 Inv-loop μ-loop) → let at = c .before .before .before .before .before in at .loop .i < length (table at .thresholds)
-in-thresholds c =
+within : (c : tie.Else4 Inv-loop μ-loop) → let at = c .before .before .before .before .before in
+    (at .loop .i < length (table at .thresholds)) × (at .loop .i < length (table at .offsets))
+within c =
     let at = c .before .before .before .before .before in
-    omega (arith, few at, len-is at, thresholds-count (now (start at .args .image)))
+    let b = now (start at .args .image) in
+    (omega (arith, known at, thresholds-count b), omega (arith, known at, offsets-count b))
 
-in-offsets : (c : tie.Else4 Inv-loop μ-loop) → let at = c .before .before .before .before .before in at .loop .i < length (table at .offsets)
-in-offsets c =
-    let at = c .before .before .before .before .before in
-    omega (arith, few at, len-is at, offsets-count (now (start at .args .image)))
+-- the threshold of this turn, and the reading
+abbrev passing : tie.Else4 Inv-loop μ-loop → ℕ × ℕ
+passing c = let at = c .before .before .before .before .before in (getD (table at .thresholds) (at .loop .i) 0, start at .args .tai)
 
 -- a slot that follows the one before
 go-on : (c : tie.Else4 Inv-loop μ-loop) → let at = c .before .before .before .before .before in let t = table at in (found : ℕ)
-    → toZ w32 found ≡ cond (leb (getD (t .thresholds) (at .loop .i) 0) (start at .args .tai)) (getD (t .offsets) (at .loop .i) (pos 0)) (toZ w32 (at .loop .in-force))
-    → Pass (t .thresholds) (t .offsets) (start at .args .tai) (at .loop .i + 1) (c .before .before .before .threshold2 .result) found (ofZ w64 (toZ w64 (at .loop .one-more) +ℤ pos 1))
+    → toZ w32 found ≡ cond (leb (passing c .0) (passing c .1)) (getD (t .offsets) (at .loop .i) (pos 0)) (toZ w32 (at .loop .in-force))
+    → Pass t (start at .args .tai) (at .loop .i + 1) (c .before .before .before .threshold2 .result) found (ofZ w64 (toZ w64 (at .loop .one-more) +ℤ pos 1))
 go-on c found g =
     let at = c .before .before .before .before .before in
-    let t = table at in
     rw (c .before .before .before .threshold2 .ensures)
-    (further (t .thresholds) (t .offsets) (start at .args .tai) _ _ _ _ (at .loop .inv .1) (in-thresholds c) (in-offsets c) (above (c .before .before)) (slot-fits (c .before)) (equal-bits c) found g)
+    (further (table at) (start at .args .tai) _ _ _ _ (at .loop .inv .1) (within c .0) (within c .1) (omega (arith, c .before .before .before .threshold2 .ensures)) (rw (c .before .offset2 .ensures) at (given-fits (c .before))) (equal-bits c) found g)
 
 len-requires : tie.Need-len-requires Inv-loop μ-loop
 len-requires c κs = search needs
 
 returns : tie.Need-returns Inv-loop μ-loop
-returns c =
-    let a = c .before .before .before .args in
-    too-long (tableIn (now (a .image))) (a .tai) (omega (arith, c .before .len .ensures))
+returns c = let a = c .before .before .before .args in too-long (tableIn (now (a .image))) (a .tai) (omega (arith, c .before .len .ensures))
 
 returns-2 : tie.Need-returns-2 Inv-loop μ-loop
 returns-2 c =
     let m = c .before .before in
-    let a = m .before .before .args in
-    no-entry (tableIn (now (a .image))) (a .tai) (sym (m .len .ensures) ∙ c .if2 .taken)
+    let a = m .before .before .args in no-entry (tableIn (now (a .image))) (a .tai) (sym (m .len .ensures) ∙ c .if2 .taken)
 
 threshold-requires : tie.Need-threshold-requires Inv-loop μ-loop
 threshold-requires c κs = search needs
@@ -126,11 +115,10 @@ loop-holds : tie.Need-loop-holds Inv-loop μ-loop
 loop-holds c =
     let a = c .before .before .before .before .before .before .args in
     let b = now (a .image) in
-    let t = tableIn b in
     let fits = rw (c .offset .ensures) at (first-fits c) in (
       omega (arith, c .before .before .if2 .left),
       rw (widened tt (first-fits c), c .before .threshold .ensures, c .offset .ensures)
-          (begins (t .thresholds) (t .offsets) (a .tai) (omega (arith, thresholds-count b)) (omega (arith, offsets-count b)) fits),
+          (begins (tableIn b) (a .tai) (omega (arith, thresholds-count b)) (omega (arith, offsets-count b)) fits),
     )
 
 threshold-requires-2 : tie.Need-threshold-requires-2 Inv-loop μ-loop
@@ -139,8 +127,7 @@ threshold-requires-2 c κs = search needs
 returns-3 : tie.Need-returns-3 Inv-loop μ-loop
 returns-3 c =
     let at = c .before .before .before in
-    let t = table at in
-    refuse (c .before .before) (not-above (t .thresholds) (t .offsets) (start at .args .tai) _ _ _ _ (at .loop .inv .1) (omega (arith, c .before .threshold2 .ensures)))
+    refuse (c .before .before) (not-above (table at) (start at .args .tai) _ _ _ _ (at .loop .inv .1) (omega (arith, c .before .threshold2 .ensures)))
 
 offset-requires-2 : tie.Need-offset-requires-2 Inv-loop μ-loop
 offset-requires-2 c κs = search needs
@@ -152,16 +139,14 @@ returns-4 : tie.Need-returns-4 Inv-loop μ-loop
 returns-4 c =
     let inside = c .before .before .before .before in
     let at = inside .before in
-    let t = table at in
     refuse inside
-    (not-one-more (t .thresholds) (t .offsets) (start at .args .tai) _ _ _ _ (at .loop .inv .1) (above (c .before .before))
+    (not-one-more (table at) (start at .args .tai) _ _ _ _ (at .loop .inv .1) (omega (arith, c .before .before .before .threshold2 .ensures))
     (λ e. c .if4 .taken (ap (ofZ w64) (given-is (c .before)) ∙ e)))
 
 add-one-more-2 : tie.Need-add-one-more-2 Inv-loop μ-loop
 add-one-more-2 c =
     let at = c .before .before .before .before .before in
-    let t = table at in
-    room (t .thresholds) (t .offsets) (start at .args .tai) _ _ _ _ (at .loop .inv .1) (in-thresholds c) (in-offsets c) (above (c .before .before)) (slot-fits (c .before)) (equal-bits c)
+    room (table at) (start at .args .tai) _ _ _ _ (at .loop .inv .1) (within c .0) (within c .1) (omega (arith, c .before .before .before .threshold2 .ensures)) (rw (c .before .offset2 .ensures) at (given-fits (c .before))) (equal-bits c)
 
 add-i : tie.Need-add-i Inv-loop μ-loop
 add-i c = search needs
@@ -171,7 +156,7 @@ loop-less c = search needs
 
 loop-again : tie.Need-loop-again Inv-loop μ-loop
 loop-again c =
-    let x = le-leb _ _ (rw (c .before .before .before .before .threshold2 .ensures) at (c .if5 .taken)) in
+    let x = le-leb (passing (c .before) .0) (passing (c .before) .1) (omega (arith, c .before .before .before .before .threshold2 .ensures)) in
     (search needs, go-on (c .before) _ (rw x (given-is (c .before .before))))
 
 loop-less-2 : tie.Need-loop-less-2 Inv-loop μ-loop
@@ -179,13 +164,12 @@ loop-less-2 c = search needs
 
 loop-again-2 : tie.Need-loop-again-2 Inv-loop μ-loop
 loop-again-2 c =
-    let x = lt-leb _ _ (rw (c .before .before .before .before .threshold2 .ensures) at (c .if5 .left)) in
+    let x = lt-leb (passing (c .before) .0) (passing (c .before) .1) (omega (arith, c .before .before .before .before .threshold2 .ensures)) in
     (search needs, go-on (c .before) _ (rw x))
 
 returns-5 : tie.Need-returns-5 Inv-loop μ-loop
 returns-5 c =
-    let at = c .before in
-    all-passed (table at) (start at .args .tai) (few at) (at .loop .inv .1) (omega (arith, len-is at))
+    let at = c .before in all-passed (table at) (start at .args .tai) (known at .1) (at .loop .inv .1) (omega (arith, known at))
 
 pub checked-offset-at-spec : {M : Type 1} → statement M
 checked-offset-at-spec =

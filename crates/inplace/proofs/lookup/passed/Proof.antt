@@ -1,7 +1,5 @@
 -- `lookup::passed` counts the thresholds at or below the reading: the halves meet where they part.
-use mathlib.Core.Path.{_≡_}
-use mathlib.Core.List.{List}
-use Prim.Native.Nat.{ℕ, _+_, _-_, _/_}
+use Prim.Native.Nat.{_+_, _-_, _/_}
 use native.Mathlib.Omega.{arith}
 use borrow.Author.Needs.{needs}
 use denote.Ref.{now}
@@ -42,7 +40,7 @@ loop-again c =
     let a = at .before .before .args in
     let xs = tableIn (now (a .image)) .thresholds in
     up xs (a .n) (a .tai) (at .before .before .pre .1 .1) (at .loop .low) (at .loop .high)
-    (at .loop .low + (at .loop .high - at .loop .low) / 2) (at .loop .inv) (omega arith) (omega arith) (rw (c .before .threshold .ensures) at (c .if1 .taken))
+    (at .loop .low + (at .loop .high - at .loop .low) / 2) (at .loop .inv) (omega arith) (omega arith) (omega (arith, c .before .threshold .ensures))
 
 loop-less-2 : tie.Need-loop-less-2 Inv-loop μ-loop
 loop-less-2 c = search needs
@@ -53,7 +51,7 @@ loop-again-2 c =
     let a = at .before .before .args in
     let xs = tableIn (now (a .image)) .thresholds in
     down xs (a .n) (a .tai) (at .before .before .pre .1 .1) (at .loop .low) (at .loop .high)
-    (at .loop .low + (at .loop .high - at .loop .low) / 2) (at .loop .inv) (omega arith) (omega arith) (rw (c .before .threshold .ensures) at (c .if1 .left))
+    (at .loop .low + (at .loop .high - at .loop .low) / 2) (at .loop .inv) (omega arith) (omega arith) (omega (arith, c .before .threshold .ensures))
 
 returns : tie.Need-returns Inv-loop μ-loop
 returns c =

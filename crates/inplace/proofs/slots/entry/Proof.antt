@@ -1,7 +1,6 @@
 -- `slots::entry` meets its contract: a threshold and an offset of one slot.
 use mathlib.Core.Path.{_∙_}
 use borrow.Author.Needs.{needs}
-use denote.Ref.{now}
 use mir.Syntax.{w32}
 use mir.Val.{SFits}
 use mir.Facts.{toZ-ofZ}

@@ -1,5 +1,5 @@
 -- `plaitgate_table_from_entries` meets its contract: what was built is written, and its number handed on.
-use mathlib.Core.Path.{_≡_, sym, ap, _∙_}
+use mathlib.Core.Path.{sym, ap, _∙_}
 use Prim.Native.Nat.{ℕ}
 use borrow.Author.Needs.{needs}
 use Rattle.tables.specs.Answers.{takenIn}
