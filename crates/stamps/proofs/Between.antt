@@ -5,9 +5,9 @@ use mathlib.Core.List.{List, [], _∷_, _++_}
 use Prim.Native.Nat.{ℕ, zero, suc, _+_, _<_, _≤_}
 use native.Mathlib.Numerals.{add-one}
 use native.Mathlib.Omega.{arith}
-use lib.Dec.{leb}
+use lib.Dec.{leb, lit≤}
 use lib.ListN.{length, getD, take, drop, take-append-drop}
-use lib.Seq.{drop-cons, take-append-le, length-take-le}
+use lib.Seq.{drop-cons, take-take, length-take-le}
 use Rattle.digits.proofs.WayBack.{first-half, second-half}
 use Rattle.stamps.specs.Form.{within}
 
@@ -61,11 +61,6 @@ pub opened : (l h s : List ℕ) (i : ℕ) → i < length l → i < length h → 
     ≡ ((leb (getD l i 0) (getD s i 0) && leb (getD s i 0) (getD h i 0)) && within (drop (i + 1) l) (drop (i + 1) h) (drop (i + 1) s))
 opened l h s i in-l in-h in-s = rw (add-one, drop-cons l i 0 in-l, drop-cons h i 0 in-h, drop-cons s i 0 in-s)
 
-shorter : (l : List ℕ) → length l ≡ 30 → take 14 (take 16 l) ≡ take 14 l
-shorter l e =
-    let long = length-take-le 16 l (omega arith) in
-    sym (take-append-le 14 (take 16 l) (drop 16 l) (omega arith)) ∙ ap (take 14) (take-append-drop 16 l)
-
 -- of 30 bytes the first 16, and the last 16
 module _ (l h s : List ℕ) (long-l : length l ≡ 30) (long-h : length h ≡ 30) where
   pub not-at-start : within (take 16 l) (take 16 h) (take 16 s) ≡ false → within l h s ≡ false
@@ -79,7 +74,7 @@ module _ (l h s : List ℕ) (long-l : length l ≡ 30) (long-h : length h ≡ 30
   at-end long-s e = by-test (within (drop 14 l) (drop 14 h) (drop 14 s)) refl
     where
       start : within (take 14 l) (take 14 h) (take 14 s) ≡ true
-      start = rw (shorter l long-l, shorter h long-h, shorter s long-s) at (start-within 14 (take 16 l) (take 16 h) (take 16 s) e)
+      start = rw (take-take 14 16 l (lit≤ tt), take-take 14 16 h (lit≤ tt), take-take 14 16 s (lit≤ tt)) at (start-within 14 (take 16 l) (take 16 h) (take 16 s) e)
 
       by-test : (t : Bool) → within (drop 14 l) (drop 14 h) (drop 14 s) ≡ t → t ≡ within l h s
       by-test true f =
