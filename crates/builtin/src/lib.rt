@@ -1,5 +1,6 @@
 // The built-in table, after tables/leap_seconds.rs: (0, 19), and an entry for each of the eighteen inserted seconds since the
 // GPS epoch (IERS Bulletin C). It is proved valid, so its calls test no table.
+mod by_utc;
 mod lookup;
 
 ghost use mathlib.Core.Path.{_≡_};
@@ -94,7 +95,7 @@ pub fn gps_to_utc(gps: Gps) -> UtcAnswer
 pub fn utc_to_gps(utc: Utc) -> GpsAnswer
     ensures { λ r. ⌜ gpsIn r ≡ utcToGps builtin (utc .0) ⌝ }
 {
-    GpsAnswer::of(lookup::utc_to_gps(utc.0))
+    GpsAnswer::of(by_utc::utc_to_gps(utc.0))
 }
 
 pub fn glonass_to_gps(glonass: Glonass) -> GpsAnswer

@@ -2,11 +2,12 @@
 // for each event at or before the reading: eighteen tests, which have no branch and read no table.
 ghost use mathlib.Core.Path.{_≡_};
 ghost use mathlib.Core.Bool.{cond};
+ghost use mathlib.Core.List.{[], _∷_};
 ghost use Prim.Native.Nat.{_≤_};
 ghost use lib.Dec.{leb};
 ghost use Rattle.counts.specs.Answers.{countIn};
 ghost use Rattle.tables.specs.Entries.{offsetAt};
-ghost use Rattle.conversions.specs.Conversions.{gpsToUtc, utcToGps};
+ghost use Rattle.conversions.specs.Conversions.{gpsToUtc};
 ghost use Rattle.builtin.specs.Builtin.{builtin};
 ghost use Rattle.builtin.specs.Passed.{passed, eventsTo1993, eventsFrom1994};
 use conversions::inner;
@@ -57,20 +58,50 @@ fn reached(threshold: u64, tai: u64) -> u64
     if threshold <= tai { 1 } else { 0 }
 }
 
+// How many of nine thresholds are at or before a reading.
+pub fn reached_of_nine(
+    t: u64,
+    a: u64,
+    b: u64,
+    c: u64,
+    d: u64,
+    e: u64,
+    f: u64,
+    g: u64,
+    h: u64,
+    i: u64,
+) -> u64
+    ensures is { λ r. ⌜ r ≡ passed t (a ∷ b ∷ c ∷ d ∷ e ∷ f ∷ g ∷ h ∷ i ∷ []) ⌝ }
+    ensures few { λ r. ⌜ r ≤ 9 ⌝ }
+{
+    reached(a, t)
+        + reached(b, t)
+        + reached(c, t)
+        + reached(d, t)
+        + reached(e, t)
+        + reached(f, t)
+        + reached(g, t)
+        + reached(h, t)
+        + reached(i, t)
+}
+
 // How many of the first nine events are at or before a reading.
 fn events_to_1993(tai: u64) -> u64
     ensures is { λ r. ⌜ r ≡ passed tai eventsTo1993 ⌝ }
     ensures few { λ r. ⌜ r ≤ 9 ⌝ }
 {
-    reached(JULY_1981, tai)
-        + reached(JULY_1982, tai)
-        + reached(JULY_1983, tai)
-        + reached(JULY_1985, tai)
-        + reached(JANUARY_1988, tai)
-        + reached(JANUARY_1990, tai)
-        + reached(JANUARY_1991, tai)
-        + reached(JULY_1992, tai)
-        + reached(JULY_1993, tai)
+    reached_of_nine(
+        tai,
+        JULY_1981,
+        JULY_1982,
+        JULY_1983,
+        JULY_1985,
+        JANUARY_1988,
+        JANUARY_1990,
+        JANUARY_1991,
+        JULY_1992,
+        JULY_1993,
+    )
 }
 
 // How many of the last nine.
@@ -78,15 +109,18 @@ fn events_from_1994(tai: u64) -> u64
     ensures is { λ r. ⌜ r ≡ passed tai eventsFrom1994 ⌝ }
     ensures few { λ r. ⌜ r ≤ 9 ⌝ }
 {
-    reached(JULY_1994, tai)
-        + reached(JANUARY_1996, tai)
-        + reached(JULY_1997, tai)
-        + reached(JANUARY_1999, tai)
-        + reached(JANUARY_2006, tai)
-        + reached(JANUARY_2009, tai)
-        + reached(JULY_2012, tai)
-        + reached(JULY_2015, tai)
-        + reached(JANUARY_2017, tai)
+    reached_of_nine(
+        tai,
+        JULY_1994,
+        JANUARY_1996,
+        JULY_1997,
+        JANUARY_1999,
+        JANUARY_2006,
+        JANUARY_2009,
+        JULY_2012,
+        JULY_2015,
+        JANUARY_2017,
+    )
 }
 
 pub fn offset_at(tai: u64) -> i32
@@ -102,13 +136,4 @@ pub fn gps_to_utc(gps: u64) -> CountAnswer
         CountAnswer::Count(tai) => inner::utc_by(offset_at(tai), gps),
         CountAnswer::Refused(why) => CountAnswer::Refused(why),
     }
-}
-
-pub fn utc_to_gps(utc: u64) -> CountAnswer
-    ensures { λ r. ⌜ countIn r ≡ utcToGps builtin utc ⌝ }
-{
-    let a = inner::first_reading(utc);
-    let n1 = offset_at(a);
-    let b = inner::second_reading(utc, n1, a);
-    inner::gps_by(offset_at(b), utc)
 }
