@@ -8,7 +8,7 @@ use native.Mathlib.Nat.{zero-add, add-assoc}
 use native.Mathlib.Decide.{decLe}
 use borrow.Author.Tests.{le-leb, lt-leb, le-ltb}
 use lib.Dec.{leb}
-use lib.IntN.{pos}
+use lib.IntN.{ℤ, pos}
 use Rattle.calendar.specs.Formula.{formula, era, yoe, doy, doe}
 use Rattle.tables.specs.Entries.{Entry, threshold, offset, entry, neighbours, offsetAt, lastUpTo}
 use Rattle.tables.proofs.Passed as entries
@@ -23,24 +23,24 @@ bit x t = by-order (decLe x t)
     by-order (yes h) = rw (le-leb x t h) (omega arith)
     by-order (no h) = rw (lt-leb x t (omega (arith, h))) (omega (arith, h))
 
-of-entries : (es : List Entry) (t : ℕ) → entries.passed es t ≡ passed t (map threshold es)
+pub of-entries : (es : List Entry) (t : ℕ) → entries.passed es t ≡ passed t (map threshold es)
 unfolding passed entries.passed
 of-entries [] t = refl
 of-entries (e ∷ es) t = λ i. bit (threshold e) t i + of-entries es t i
 
-of-both : (t : ℕ) (xs ys : List ℕ) → passed t (xs ++ ys) ≡ passed t xs + passed t ys
+pub of-both : (t : ℕ) (xs ys : List ℕ) → passed t (xs ++ ys) ≡ passed t xs + passed t ys
 unfolding passed
 of-both t [] ys = sym (zero-add (passed t ys))
 of-both t (x ∷ xs) ys = ap (λ (n : ℕ). cond (leb x t) 1 0 + n) (of-both t xs ys) ∙ sym (add-assoc (cond (leb x t) 1 0) (passed t xs) (passed t ys))
 
 -- the entries after the first
-later : List Entry
+unfoldable pub later : List Entry
 later = entriesFrom 20 events
 
-first : Entry
+unfoldable pub first : Entry
 first = entry 0 (pos 19)
 
-chained : entries.Chain first later
+pub chained : entries.Chain first later
 unfolding first later events thresholdOf entriesFrom formula era yoe doy doe neighbours
 chained = entries.chain first later refl refl
 
@@ -52,8 +52,9 @@ by-the-last : (t : ℕ) → offsetAt builtin t ≡ offset (lastUpTo t first late
 unfolding builtin first later offsetAt lastUpTo entriesFrom events
 by-the-last t = rw (le-ltb t 0 (omega arith), le-leb 0 t (omega arith))
 
-pub counted : (t : ℕ) → offsetAt builtin t ≡ pos (19 + (passed t eventsTo1993 + passed t eventsFrom1994))
+pub in-force : (t : ℕ) → offsetAt builtin t ≡ pos (19 + entries.passed later t)
 unfolding first
-counted t =
-    by-the-last t ∙ entries.last-offset first later t 19 chained refl
-    ∙ ap (λ (n : ℕ). pos (19 + n)) (of-entries later t ∙ ap (passed t) thresholds-are ∙ of-both t eventsTo1993 eventsFrom1994)
+in-force t = by-the-last t ∙ entries.last-offset first later t 19 chained refl
+
+pub counted : (t : ℕ) → offsetAt builtin t ≡ pos (19 + (passed t eventsTo1993 + passed t eventsFrom1994))
+counted t = in-force t ∙ ap (λ (n : ℕ). pos (19 + n)) (of-entries later t ∙ ap (passed t) thresholds-are ∙ of-both t eventsTo1993 eventsFrom1994)

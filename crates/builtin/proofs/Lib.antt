@@ -1,3 +1,4 @@
 pub mod Regular
 pub mod Counted
+pub mod OneLookup
 pub mod Calls

@@ -1,5 +1,6 @@
 // The built-in table, after tables/leap_seconds.rs: (0, 19), and an entry for each of the eighteen inserted seconds since the
 // GPS epoch (IERS Bulletin C). It is proved valid, so its calls test no table.
+mod by_utc;
 mod lookup;
 
 ghost use mathlib.Core.Path.{_≡_};
@@ -95,13 +96,13 @@ pub fn gps_to_utc(gps: Gps) -> UtcAnswer
 pub fn utc_to_gps(utc: Utc) -> GpsAnswer
     ensures { λ r. ⌜ gpsIn r ≡ utcToGps builtin (utc .0) ⌝ }
 {
-    GpsAnswer::of(lookup::utc_to_gps(utc.0))
+    GpsAnswer::of(by_utc::utc_to_gps(utc.0))
 }
 
 pub fn glonass_to_gps(glonass: Glonass) -> GpsAnswer
     ensures { λ r. ⌜ gpsIn r ≡ glonassToGps builtin (glonass .0) ⌝ }
 {
-    GpsAnswer::of(lookup::glonass_to_gps(glonass.0))
+    GpsAnswer::of(by_utc::glonass_to_gps(glonass.0))
 }
 
 pub fn gps_to_glonass(gps: Gps) -> GlonassAnswer
@@ -113,7 +114,7 @@ pub fn gps_to_glonass(gps: Gps) -> GlonassAnswer
 pub fn gps_from_unix_seconds(seconds: i64) -> GpsAnswer
     ensures { λ r. ⌜ gpsIn r ≡ unixToGps builtin seconds ⌝ }
 {
-    GpsAnswer::of(lookup::unix_to_gps(seconds))
+    GpsAnswer::of(by_utc::unix_to_gps(seconds))
 }
 
 pub fn gps_as_unix_seconds(gps: Gps) -> UnixAnswer

@@ -7,13 +7,12 @@ ghost use Prim.Native.Nat.{_≤_};
 ghost use lib.Dec.{leb};
 ghost use Rattle.counts.specs.Answers.{countIn};
 ghost use Rattle.tables.specs.Entries.{offsetAt};
-ghost use Rattle.conversions.specs.Conversions.{firstReading, secondReading, gpsToUtc, utcToGps, glonassToGps, unixToGps};
+ghost use Rattle.conversions.specs.Conversions.{gpsToUtc};
 ghost use Rattle.builtin.specs.Builtin.{builtin};
-ghost use Rattle.builtin.specs.Passed.{passed};
+ghost use Rattle.builtin.specs.Passed.{passed, eventsTo1993, eventsFrom1994};
 use conversions::inner;
 use counts::CountAnswer;
 use counts::sums;
-use counts::unix;
 
 // The threshold of each event: (its Unix second − 315,964,800 + the offset that begins) × 10⁹.
 pub const JULY_1981: u64 = 46_828_820_000_000_000;
@@ -59,37 +58,40 @@ fn reached(threshold: u64, tai: u64) -> u64
     if threshold <= tai { 1 } else { 0 }
 }
 
-// How many of nine thresholds a reading has reached.
-fn of_nine_reached(
-    first: u64,
-    second: u64,
-    third: u64,
-    fourth: u64,
-    fifth: u64,
-    sixth: u64,
-    seventh: u64,
-    eighth: u64,
-    ninth: u64,
-    tai: u64,
+// How many of nine thresholds are at or before a reading.
+pub fn reached_of_nine(
+    t: u64,
+    a: u64,
+    b: u64,
+    c: u64,
+    d: u64,
+    e: u64,
+    f: u64,
+    g: u64,
+    h: u64,
+    i: u64,
 ) -> u64
-    ensures is { λ r. ⌜ r ≡ passed tai (first ∷ second ∷ third ∷ fourth ∷ fifth ∷ sixth ∷ seventh ∷ eighth ∷ ninth ∷ []) ⌝ }
+    ensures is { λ r. ⌜ r ≡ passed t (a ∷ b ∷ c ∷ d ∷ e ∷ f ∷ g ∷ h ∷ i ∷ []) ⌝ }
     ensures few { λ r. ⌜ r ≤ 9 ⌝ }
 {
-    reached(first, tai)
-        + reached(second, tai)
-        + reached(third, tai)
-        + reached(fourth, tai)
-        + reached(fifth, tai)
-        + reached(sixth, tai)
-        + reached(seventh, tai)
-        + reached(eighth, tai)
-        + reached(ninth, tai)
+    reached(a, t)
+        + reached(b, t)
+        + reached(c, t)
+        + reached(d, t)
+        + reached(e, t)
+        + reached(f, t)
+        + reached(g, t)
+        + reached(h, t)
+        + reached(i, t)
 }
 
-pub fn offset_at(tai: u64) -> i32
-    ensures { λ r. ⌜ r ≡ offsetAt builtin tai ⌝ }
+// How many of the first nine events are at or before a reading.
+fn events_to_1993(tai: u64) -> u64
+    ensures is { λ r. ⌜ r ≡ passed tai eventsTo1993 ⌝ }
+    ensures few { λ r. ⌜ r ≤ 9 ⌝ }
 {
-    let to_1993 = of_nine_reached(
+    reached_of_nine(
+        tai,
         JULY_1981,
         JULY_1982,
         JULY_1983,
@@ -99,9 +101,16 @@ pub fn offset_at(tai: u64) -> i32
         JANUARY_1991,
         JULY_1992,
         JULY_1993,
+    )
+}
+
+// How many of the last nine.
+fn events_from_1994(tai: u64) -> u64
+    ensures is { λ r. ⌜ r ≡ passed tai eventsFrom1994 ⌝ }
+    ensures few { λ r. ⌜ r ≤ 9 ⌝ }
+{
+    reached_of_nine(
         tai,
-    );
-    let from_1994 = of_nine_reached(
         JULY_1994,
         JANUARY_1996,
         JULY_1997,
@@ -111,9 +120,13 @@ pub fn offset_at(tai: u64) -> i32
         JULY_2012,
         JULY_2015,
         JANUARY_2017,
-        tai,
-    );
-    (19 + to_1993 + from_1994) as i32
+    )
+}
+
+pub fn offset_at(tai: u64) -> i32
+    ensures { λ r. ⌜ r ≡ offsetAt builtin tai ⌝ }
+{
+    (19 + events_to_1993(tai) + events_from_1994(tai)) as i32
 }
 
 pub fn gps_to_utc(gps: u64) -> CountAnswer
@@ -121,39 +134,6 @@ pub fn gps_to_utc(gps: u64) -> CountAnswer
 {
     match sums::plus(gps, inner::TAI_MINUS_GPS_NS) {
         CountAnswer::Count(tai) => inner::utc_by(offset_at(tai), gps),
-        CountAnswer::Refused(why) => CountAnswer::Refused(why),
-    }
-}
-
-// The offset by which a UTC count is converted: looked up at a, and by what is found there at b.
-fn offset_of_utc(utc: u64) -> i32
-    ensures { λ r. ⌜ r ≡ offsetAt builtin (secondReading utc (offsetAt builtin (firstReading utc)) (firstReading utc)) ⌝ }
-{
-    let a = inner::first_reading(utc);
-    let n1 = offset_at(a);
-    offset_at(inner::second_reading(utc, n1, a))
-}
-
-pub fn utc_to_gps(utc: u64) -> CountAnswer
-    ensures { λ r. ⌜ countIn r ≡ utcToGps builtin utc ⌝ }
-{
-    inner::gps_by(offset_of_utc(utc), utc)
-}
-
-pub fn glonass_to_gps(glonass: u64) -> CountAnswer
-    ensures { λ r. ⌜ countIn r ≡ glonassToGps builtin glonass ⌝ }
-{
-    match inner::glonass_to_utc(glonass) {
-        CountAnswer::Count(utc) => inner::gps_by(offset_of_utc(utc), utc),
-        CountAnswer::Refused(why) => CountAnswer::Refused(why),
-    }
-}
-
-pub fn unix_to_gps(seconds: i64) -> CountAnswer
-    ensures { λ r. ⌜ countIn r ≡ unixToGps builtin seconds ⌝ }
-{
-    match unix::from_unix_seconds(seconds) {
-        CountAnswer::Count(utc) => inner::gps_by(offset_of_utc(utc), utc),
         CountAnswer::Refused(why) => CountAnswer::Refused(why),
     }
 }

@@ -1,4 +1,5 @@
 pub mod Shifts
+pub mod SinceEpoch
 pub mod OneThenAnother
 pub mod ByWayOfUtc
 pub mod Tells

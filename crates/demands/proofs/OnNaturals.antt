@@ -14,6 +14,7 @@ use Rattle.counts.proofs.Fitting.{is-count, no-count}
 use Rattle.scales.specs.Scales.{taiMinusGps}
 use Rattle.tables.specs.Entries.{Entry, offsetAt, day}
 use Rattle.conversions.specs.Conversions.{E, inNanos, countOr, utcBy, gpsBy, then, firstReading, secondReading, gpsToUtc, utcToGps}
+use Rattle.conversions.proofs.SinceEpoch.{since-E, since}
 use Rattle.demands.proofs.LeapSeconds.{LeapSeconds}
 
 abbrev pub tai : ℕ → ℕ
@@ -21,10 +22,6 @@ tai g = g + taiMinusGps
 
 less-19 : (n : ℕ) → pos (19 + n) -ℤ pos 19 ≡ pos n
 less-19 n = of-naturals (19 + n) 19 ∙ not-below (19 + n) 19 (omega arith) ∙ ap pos (omega arith)
-
--- UTC counts since 1980-01-06, and some nanoseconds on
-since-E : (u j : ℕ) → pos u -ℤ pos E +ℤ pos j ≡ subℕ (u + j) E
-since-E u j = ap (λ (z : ℤ). z +ℤ pos j) (of-naturals u E) ∙ plus u E j
 
 -- the two steps by an offset of 19 and n
 utc-by : (g n : ℕ) → n ≤ 63 → utcBy (pos (19 + n)) g ≡ countOf (pos (g + E - n * second))
@@ -103,9 +100,6 @@ module _ (es : List Entry) (k : ℕ → ℕ) (f : LeapSeconds es k) where
 
   abbrev pub b : ℕ → ℕ
   b u = a u + k (a u) * second
-
-  since : (d u j : ℕ) → E ≤ u + j → u + j < 2 ^ 64 + E → countOr d (pos u -ℤ pos E +ℤ pos j) ≡ u + j - E
-  since d u j l m = rw (since-E u j, not-below (u + j) E l, lt-ltb (u + j - E) (2 ^ 64) (omega arith))
 
   pub from-E : (u : ℕ) → E ≤ u → u < 2 ^ 64 → utcToGps es u ≡ answered (u - E + k (b u) * second)
   from-E u l m =

@@ -62,10 +62,3 @@ field-turn s at width i l h =
     let one : width - i ≡ suc (width - (i + 1)) = omega arith in
     let next : suc (at + i) ≡ at + (i + 1) = omega arith in
     rw (one, drop-cons s (at + i) 0 (omega arith), next)
-
--- i bytes add to a value of less than 23 * 10 ^ i: a byte adds at most 207, and 207 + 23 is 230
-pub field-room : (v i d : ℕ) → v + 23 ≤ 23 * 10 ^ i → d ≤ 207 → v * 10 + d + 23 ≤ 23 * 10 ^ (i + 1)
-field-room v i d h l = rw (add-one, pow-suc) (omega arith)
-
-pub field-small : (v i : ℕ) → v + 23 ≤ 23 * 10 ^ i → i ≤ 9 → v ≤ 23000000000
-field-small v i h l = omega (arith, pow-le-pow-right {n = 10} (lit< tt) l)

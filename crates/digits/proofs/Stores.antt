@@ -21,6 +21,12 @@ set-before (v ∷ vs) l p q d h =
     apart : {p q : ℕ} → p < q → q ≡ p → ⊥
     apart h e = omega arith
 
+-- a run before a run
+pub sets-before : (ws vs l : List ℕ) (p q : ℕ) → q ≡ p + length ws → sets (sets l q vs) p ws ≡ sets l p (ws ++ vs)
+sets-before [] vs l p q e = ap (λ (k : ℕ). sets l k vs) (e ∙ add-zero p)
+sets-before (w ∷ ws) vs l p q e =
+    ap (λ (k : List ℕ). sets k (suc p) ws) (set-before vs l p q w (omega arith)) ∙ sets-before ws vs (set l p w) (suc p) q (omega arith)
+
 -- a run and then another, from where the first ends
 pub joined : {x y : List ℕ} (out : List ℕ) (at p : ℕ) (vs ws : List ℕ) → x ≡ sets out at vs → p ≡ at + length vs → y ≡ sets x p ws → y ≡ sets out at (vs ++ ws)
 joined out at p vs ws e place f =

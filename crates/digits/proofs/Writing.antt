@@ -2,16 +2,17 @@
 use mathlib.Core.Path.{_≡_, refl, sym, ap, _∙_}
 use mathlib.Core.List.{List, [], _∷_, _++_, append-nil, append-assoc}
 use Prim.Native.Nat.{ℕ, zero, suc, zero-le, _+_, _-_, _*_, _/_, _%_, _^_, _<_, _≤_}
-use native.Mathlib.Nat.{pow-suc, pow-succ', pow-le-pow-right, add-zero, add-suc, div-one, div-div-eq-div-mul}
+use native.Mathlib.Nat.{pow-suc, pow-succ', pow-le-pow-right, add-zero, zero-add, add-suc, suc-add, div-one, div-div-eq-div-mul}
 use native.Mathlib.Numerals.{add-one}
 use native.Mathlib.Omega.{arith}
 use borrow.Author.Tests.{lt-ltb, le-ltb}
 use lib.Arith.{mod-mul}
 use lib.Dec.{lit<}
 use lib.ListN.{length, length-append, set}
+use lib.Pow.{pow-add}
 use lib.Seq.{sets}
 use Rattle.digits.specs.Decimal.{inDigits, placesUpTo}
-use Rattle.digits.proofs.Stores.{sets-sets, set-before}
+use Rattle.digits.proofs.Stores.{sets-sets, sets-before}
 
 pub digits-length : (k n : ℕ) → length (inDigits k n) ≡ k
 digits-length zero n = refl
@@ -63,23 +64,30 @@ module _ (out : List ℕ) (at n : ℕ) where
       ∙ ap (λ (p : ℕ). sets start p (inDigits 4 (n / 10000 % 10000) ++ inDigits 4 (n % 10000))) (add-one at)
       ∙ ap (sets start (suc at)) fours ∙ ap (sets out at) (sym all)
 
--- a turn of `put_last`: one digit more stands before those that are written
-module _ (out : List ℕ) (at left width n : ℕ) (some : 0 < left) (most : left ≤ width) where
-  pub one-more : set (sets out (at + left) (inDigits (width - left) n)) (at + (left - 1)) (48 + n / 10 ^ (width - left) % 10)
-      ≡ sets out (at + (left - 1)) (inDigits (width - (left - 1)) n)
-  one-more =
-      let place : at + left ≡ suc (at + (left - 1)) = omega arith in
-      let wider : width - (left - 1) ≡ 1 + (width - left) = omega arith in
-      ap (λ (p : ℕ). set (sets out p (inDigits (width - left) n)) (at + (left - 1)) (48 + n / 10 ^ (width - left) % 10)) place
-      ∙ set-before (inDigits (width - left) n) out (at + (left - 1)) (suc (at + (left - 1))) (48 + n / 10 ^ (width - left) % 10) (omega arith)
-      ∙ ap (sets out (at + (left - 1))) (sym (ap (λ (j : ℕ). inDigits j n) wider ∙ cut (width - left) 1 n))
+-- a turn of a writer from the end: k digits more stand before those that are written
+module _ (k : ℕ) (out : List ℕ) (at left width n : ℕ) (some : k ≤ left) (most : left ≤ width) where
+  wider : width - (left - k) ≡ k + (width - left)
+  wider = omega arith
 
-  pub one-less : n / 10 ^ (width - left) / 10 ≡ n / 10 ^ (width - (left - 1))
-  one-less =
-      let wider : suc (width - left) ≡ width - (left - 1) = omega arith in
-      div-div-eq-div-mul n (10 ^ (width - left)) 10 ∙ ap (λ (p : ℕ). n / p) (sym (pow-suc 10 (width - left))) ∙ ap (λ (j : ℕ). n / 10 ^ j) wider
+  pub some-more : sets (sets out (at + left) (inDigits (width - left) n)) (at + (left - k)) (inDigits k (n / 10 ^ (width - left)))
+      ≡ sets out (at + (left - k)) (inDigits (width - (left - k)) n)
+  some-more =
+      sets-before (inDigits k (n / 10 ^ (width - left))) (inDigits (width - left) n) out (at + (left - k)) (at + left) (omega (arith, digits-length k (n / 10 ^ (width - left))))
+      ∙ ap (sets out (at + (left - k))) (sym (ap (λ (j : ℕ). inDigits j n) wider ∙ cut (width - left) k n))
 
--- a turn of `places`: the rest has at most k digits
+  pub some-less : n / 10 ^ (width - left) / 10 ^ k ≡ n / 10 ^ (width - (left - k))
+  some-less =
+      div-div-eq-div-mul n (10 ^ (width - left)) (10 ^ k) ∙ ap (λ (p : ℕ). n / p) (sym (pow-add 10 (width - left) k)) ∙ ap (λ (j : ℕ). n / 10 ^ j) (omega arith)
+
+-- from 10 ^ j up to 10 ^ suc j a number has suc j places
+pub places-are : (j k n : ℕ) → 10 ^ j ≤ n → n < 10 ^ suc j → placesUpTo (j + suc k) n ≡ suc j
+unfolding placesUpTo
+places-are zero k n least most = rw (zero-add, lt-ltb n 10 (omega arith))
+places-are (suc j) k n least most =
+    let big : 10 ≤ n = omega (arith, pow-le-pow-right {n = 10} (lit< tt) {i = 1} {j = suc j} (omega arith)) in
+    rw (suc-add, le-ltb n 10 big) (ap suc (places-are j k (n / 10) (omega (arith, pow-suc 10 j)) (omega (arith, pow-suc 10 (suc j)))))
+
+-- a turn of `counted_places`: the rest has at most k digits
 never : {rest : ℕ} → 10 ≤ rest → rest < 1 → ⊥
 never h l = omega arith
 

@@ -1,21 +1,24 @@
 // Digits at a place of a slice. The caller has tested that they are there, or that there is room for them.
 ghost use mathlib.Core.Path.{_≡_};
+ghost use mathlib.Core.Bool.{true};
 ghost use Prim.Native.Nat.{_+_, _-_, _≤_, _<_};
 ghost use lib.ListN.{length, take, drop};
 ghost use lib.Seq.{sets};
-ghost use Rattle.digits.specs.Decimal.{valueOf, inDigits, placesUpTo, decimal};
+ghost use Rattle.digits.specs.Decimal.{allDigits, valueOf, inDigits, placesUpTo, decimal};
 
-// What a byte adds to a value: a digit's own value, and 0 for a byte below the digits.
+// The value of a digit.
 pub fn digit(b: u8) -> u64
+    requires { ⌜ 48 ≤ b ⌝ }
     ensures { λ r. ⌜ r ≡ b - 48 ⌝ }
 {
-    if b < b'0' { 0 } else { (b - b'0') as u64 }
+    b as u64 - 48
 }
 
-// The value of `width` bytes from `at` on.
+// The value of `width` digits from `at` on.
 pub fn field(s: &[u8], at: usize, width: usize) -> u64
     requires { ⌜ at + width ≤ length (now s) ⌝ }
     requires { ⌜ width ≤ 9 ⌝ }
+    requires { ⌜ allDigits (take width (drop at (now s))) ≡ true ⌝ }
     ensures { λ r. ⌜ r ≡ valueOf (take width (drop at (now (s .entry)))) ⌝ }
 {
     let mut value: u64 = 0;
@@ -55,8 +58,8 @@ pub fn put_nine(out: &mut [u8], at: usize, n: u32)
     put_four(out, at + 5, n % 10000);
 }
 
-// How many digits a count has.
-pub fn places(n: u64) -> usize
+// How many digits a count has, one by one.
+fn counted_places(n: u64) -> usize
     ensures { λ r. ⌜ (r ≡ placesUpTo 20 n) × (r ≤ 20) ⌝ }
 {
     let mut more: usize = 0;
@@ -68,8 +71,28 @@ pub fn places(n: u64) -> usize
     more + 1
 }
 
-// The last `width` digits of a number.
-pub fn put_last(out: &mut [u8], at: usize, width: usize, n: u64)
+// How many digits a count has. A count of nanoseconds that is past its first four months has 17 or more.
+pub fn places(n: u64) -> usize
+    ensures { λ r. ⌜ (r ≡ placesUpTo 20 n) × (r ≤ 20) ⌝ }
+{
+    if n < 10_000_000_000_000_000 {
+        return counted_places(n);
+    }
+    if n < 100_000_000_000_000_000 {
+        return 17;
+    }
+    if n < 1_000_000_000_000_000_000 {
+        return 18;
+    }
+    if n < 10_000_000_000_000_000_000 {
+        19
+    } else {
+        20
+    }
+}
+
+// The last `width` digits of a number, one by one.
+fn put_ones(out: &mut [u8], at: usize, width: usize, n: u64)
     requires { ⌜ at + width ≤ length (now out) ⌝ }
     ensures { λ _. ⌜ now (out .exit) ≡ sets (now (out .entry)) at (inDigits width n) ⌝ }
 {
@@ -80,6 +103,21 @@ pub fn put_last(out: &mut [u8], at: usize, width: usize, n: u64)
         out[at + left] = (48 + rest % 10) as u8;
         rest /= 10;
     }
+}
+
+// The last `width` digits of a number: four by four from the end, and then those in front.
+pub fn put_last(out: &mut [u8], at: usize, width: usize, n: u64)
+    requires { ⌜ at + width ≤ length (now out) ⌝ }
+    ensures { λ _. ⌜ now (out .exit) ≡ sets (now (out .entry)) at (inDigits width n) ⌝ }
+{
+    let mut left = width;
+    let mut rest = n;
+    while left >= 4 {
+        left -= 4;
+        put_four(out, at + left, (rest % 10000) as u32);
+        rest /= 10000;
+    }
+    put_ones(out, at, left, rest);
 }
 
 // A count in its fewest digits. Returns where they end.

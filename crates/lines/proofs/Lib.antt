@@ -1,8 +1,9 @@
 pub mod Years
 pub mod Outcomes
+pub mod Ends
+pub mod Cutting
 pub mod Turns
-pub mod Sound
-pub mod TakenPieces
 pub mod WholeInput
+pub mod WholeRun
 pub mod ReadBack
 pub mod Calls

@@ -1,48 +1,62 @@
--- A turn of `feed` is a step of the machine, at the byte where the block has come to.
-use mathlib.Core.Path.{_≡_, refl, sym, ap, _∙_}
-use mathlib.Core.List.{List, [], _∷_}
-use Prim.Native.Nat.{ℕ, suc, _+_, _-_, _≤_, _<_}
-use native.Mathlib.Numerals.{add-one}
+-- Turns: what is said of one is said of it whatever stands behind the bytes that were read; and a run, turn by turn.
+use mathlib.Core.Path.{_≡_, ap, subst, _∙_}
+use mathlib.Core.List.{List, _++_}
+use Prim.Native.Nat.{ℕ, min, _≤_}
 use native.Mathlib.Omega.{arith}
-use borrow.Author.Tests.{lt-ltb, le-ltb, eq-eqb, ne-eqb}
-use lib.ListN.{length, take, drop, getD, set}
-use lib.Seq.{drop-cons, sets}
-use Rattle.lines.specs.Machine.{Machine, machine, run, atEnd}
+use lib.ListN.{length, take, length-take}
+use lib.Seq.{take-take}
+use Rattle.lines.specs.Answers.{answerTo}
+use Rattle.lines.specs.Pieces.{carriedOn, written}
+use Rattle.lines.specs.Runs.{Passed, Finished, Turned, Runs, goes-on, Ran}
+use Rattle.lines.specs.declared.Way.{Way}
+use Rattle.lines.specs.declared.inner.Taken.{Taken}
+use Rattle.lines.specs.declared.inner.Step.{Step}
+use Rattle.lines.specs.declared.inner.Step.the-variants.{More, Ended, CannotRead, CannotWrite, CannotEnd}
 
-module _ (f : List ℕ → List ℕ) (line : List ℕ) (used : ℕ) (out : List ℕ) (made at : ℕ) (s : List ℕ) (inside : at < length s) where
-  here : run f (machine line used out made at) (drop at s) ≡ run f (machine line used out made at) (getD s at 0 ∷ drop (suc at) s)
-  here = ap (run f (machine line used out made at)) (drop-cons s at 0 inside)
+-- a run so far, by its buffer
+pub record SoFar (way : Way) (line : List ℕ) (used : ℕ) : Type 0 where
+  pub input : List ℕ
+  pub output : List ℕ
+  pub runs : Runs way line used input output
 
-  next : (m : Machine) → run f m (drop (suc at) s) ≡ run f m (drop (at + 1) s)
-  next m = ap (λ (k : ℕ). run f m (drop k s)) (sym (add-one at))
+module _ (way : Way) (c block line′ out′ : List ℕ) where
+  pub finished : (s : Step) → Finished way c out′ s → Turned way c block line′ out′ s
+  finished (More t) h = absurd h
+  finished (Ended made) h = h
+  finished CannotRead h = absurd h
+  finished (CannotWrite t) h = absurd h
+  finished (CannotEnd made) h = h
 
-  -- no room for the answer
-  pub stops : getD s at 0 ≡ 10 → length out - made < 31 → run f (machine line used out made at) (drop at s) ≡ machine line used out made at
-  stops e h = here ∙ rw (eq-eqb (getD s at 0) 10 e, lt-ltb (length out - made) 31 h)
+  wider : (n : ℕ) (t : Taken) → Passed way c (take n block) line′ out′ t → Passed way c block line′ out′ t
+  wider n t h =
+      let same : take (t .read) (take n block) ≡ take (t .read) block = take-take (t .read) n block (omega (arith, h .within, length-take n block)) in
+      record {
+        within = omega (arith, h .within, length-take n block);
+        held = h .held;
+        line = h .line ∙ ap (carriedOn c) same;
+        text = h .text ∙ ap (written (answerTo way) c) same;
+      }
 
-  -- the answer to the line
-  pub answers-line : (out′ : List ℕ) (made′ : ℕ) → getD s at 0 ≡ 10 → 31 ≤ length out - made → out′ ≡ sets out made (f (take used line)) → made′ ≡ made + length (f (take used line))
-      → run f (machine line used out made at) (drop at s) ≡ run f (machine line 0 out′ made′ (at + 1)) (drop (at + 1) s)
-  answers-line out′ made′ e h text end =
-      here
-      ∙ rw (eq-eqb (getD s at 0) 10 e, le-ltb (length out - made) 31 h)
-      (next (machine line 0 (sets out made (f (take used line))) (made + length (f (take used line))) (at + 1))
-      ∙ ap (λ (o : List ℕ). run f (machine line 0 o (made + length (f (take used line))) (at + 1)) (drop (at + 1) s)) (sym text)
-      ∙ ap (λ (k : ℕ). run f (machine line 0 out′ k (at + 1)) (drop (at + 1) s)) (sym end))
+  pub in-whole-block : (n : ℕ) (s : Step) → Turned way c (take n block) line′ out′ s → Turned way c block line′ out′ s
+  in-whole-block n (More t) h = wider n t h
+  in-whole-block n (Ended made) h = h
+  in-whole-block n CannotRead h = h
+  in-whole-block n (CannotWrite t) h = wider n t h
+  in-whole-block n (CannotEnd made) h = h
 
-  module _ (other : getD s at 0 ≡ 10 → ⊥) where
-    -- a byte that the buffer has room for
-    pub keeps : used < 128 → run f (machine line used out made at) (drop at s) ≡ run f (machine (set line used (getD s at 0)) (used + 1) out made (at + 1)) (drop (at + 1) s)
-    keeps h = here ∙ rw (ne-eqb (getD s at 0) 10 other, lt-ltb used 128 h) (next (machine (set line used (getD s at 0)) (used + 1) out made (at + 1)))
+  -- a run that goes on holds no more than the buffer does
+  pub held-on : (s : Step) (t : Taken) → s ≡ More t → Turned way c block line′ out′ s → t .used ≤ 128
+  held-on s t e h = subst (Turned way c block line′ out′) e h .held
 
-    -- a byte more than the buffer holds
-    pub passes : 128 ≤ used → run f (machine line used out made at) (drop at s) ≡ run f (machine line used out made (at + 1)) (drop (at + 1) s)
-    passes h = here ∙ rw (ne-eqb (getD s at 0) 10 other, le-ltb used 128 h) (next (machine line used out made (at + 1)))
+-- a turn more, and the last one
+module _ (way : Way) (line : List ℕ) (used : ℕ) (block′ line′ out′ : List ℕ) (s : Step) (h : Turned way (take used line) block′ line′ out′ s) (before : SoFar way line used) where
+  pub one-more : (t : Taken) → s ≡ More t → SoFar way line′ (t .used)
+  one-more t e =
+      record {
+        input = before .input ++ take (t .read) block′;
+        output = before .output ++ take (t .made) out′;
+        runs = goes-on block′ line′ out′ t (before .runs) (subst (Turned way (take used line) block′ line′ out′) e h);
+      }
 
--- a line that has begun is answered at the end
-pub begun : (f : List ℕ → List ℕ) (l : List ℕ) → 0 < length l → atEnd f l ≡ f l
-begun f [] h = absurd (never h)
-  where
-    never : 0 < 0 → ⊥
-    never h = omega arith
-begun f (b ∷ l) h = refl
+  pub ran : Ran way line′ block′ out′ s
+  ran = record { line = line; used = used; input = before .input; output = before .output; runs = before .runs; last = h }

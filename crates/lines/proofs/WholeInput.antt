@@ -11,10 +11,10 @@ use lib.ListN.{length, take, length-append}
 use lib.Seq.{take-all, take-append-le, length-take-le}
 use Rattle.lines.specs.Lines.{onto, linesOf, answers}
 use Rattle.lines.specs.Answers.{answerTo}
-use Rattle.lines.specs.Machine.{atEnd}
-use Rattle.lines.specs.Pieces.{grown, carriedOn, written, writtenInAll}
+use Rattle.lines.specs.Pieces.{grown, carriedOn, written, atEnd, writtenInAll}
 use Rattle.lines.specs.declared.Way.{Way}
 use Rattle.lines.proofs.Outcomes.{long-line}
+use Rattle.lines.proofs.Cutting.{carried-joins, written-joins, clipped}
 
 -- ---- the statements
 -- a piece and then another is both of them at once
@@ -28,16 +28,6 @@ abbrev pub AnswersToTheLines : Type 0
 AnswersToTheLines = (way : Way) (s : List ℕ) → writtenInAll (answerTo way) s ≡ answers (answerTo way) (linesOf s)
 
 -- ---- pieces
-carried-joins : (c a b : List ℕ) → carriedOn c (a ++ b) ≡ carriedOn (carriedOn c a) b
-carried-joins c [] b = refl
-carried-joins c (x ∷ a) b = carried-joins (grown c x) a b
-
-written-joins : (f : List ℕ → List ℕ) (c a b : List ℕ) → written f c (a ++ b) ≡ written f c a ++ written f (carriedOn c a) b
-written-joins f c [] b = refl
-written-joins f c (x ∷ a) b =
-    ap (λ (l : List ℕ). cond (eqb x 10) (f c) [] ++ l) (written-joins f (grown c x) a b)
-    ∙ sym (append-assoc (cond (eqb x 10) (f c) []) (written f (grown c x) a) (written f (carriedOn (grown c x) a) b))
-
 pub pieces-join : PiecesJoin
 pieces-join f c a b = (carried-joins c a b, written-joins f c a b)
 
@@ -53,19 +43,6 @@ before-onto [] b [] = refl
 before-onto [] b (l ∷ ls) = refl
 before-onto (x ∷ xs) b [] = refl
 before-onto (x ∷ xs) b (l ∷ ls) = ap (λ (k : List ℕ). (x ∷ k) ∷ ls) (append-assoc xs (b ∷ []) l)
-
--- the buffer holds the first 128 bytes of the line that has begun
-clipped : (u : List ℕ) (b : ℕ) → eqb b 10 ≡ false → grown (take 128 u) b ≡ take 128 (u ++ (b ∷ []))
-clipped u b e = by-length (decLe 128 (length u))
-  where
-    by-length : Dec (128 ≤ length u) → grown (take 128 u) b ≡ take 128 (u ++ (b ∷ []))
-    by-length (yes h) =
-        let full : length (take 128 u) ≡ 128 = length-take-le 128 u h in
-        rw (e, le-ltb (length (take 128 u)) 128 (omega arith)) (sym (take-append-le 128 u (b ∷ []) h))
-    by-length (no h) =
-        let whole : take 128 u ≡ u = take-all 128 u (omega (arith, h)) in
-        let room : length (u ++ (b ∷ [])) ≤ 128 = omega (arith, h, length-append u (b ∷ [])) in
-        rw (whole, e, lt-ltb (length u) 128 (omega (arith, h))) (sym (take-all 128 (u ++ (b ∷ [])) room))
 
 module _ (f : List ℕ → List ℕ) (same : (l : List ℕ) → f (take 128 l) ≡ f l) where
   last-line : (u : List ℕ) → atEnd f (take 128 u) ≡ answers f (before u [])

@@ -1,5 +1,4 @@
 pub mod Lines
 pub mod Answers
-pub mod Machine
 pub mod Pieces
-pub mod Going
+pub mod Runs

@@ -1,5 +1,4 @@
 // The two programs' work on bytes: a line answered, and an input cut into lines whose answers are gathered.
-mod answer;
 pub mod inner;
 
 ghost use Rattle.lines.specs.Answers.{Puts, within, civilOfLine, gpsOfLine, lineOf};
@@ -8,13 +7,6 @@ ghost use Rattle.lines.specs.Answers.{Puts, within, civilOfLine, gpsOfLi
 pub enum Way {
     ToCivil,
     ToGps,
-}
-
-// How far a block was taken: the bytes of it, the used length of the line buffer, the bytes of answers.
-pub struct Fed {
-    pub at: usize,
-    pub used: usize,
-    pub made: usize,
 }
 
 // The longest answer: the civil form and the line's end.
@@ -27,7 +19,7 @@ pub fn answer_gps(line: &[u8], out: &mut [u8]) -> usize
     if out.len() < LONGEST_ANSWER {
         return 0;
     }
-    answer::answer_gps(line, out, 0)
+    inner::answer::answer_gps(line, out, 0)
 }
 
 // The line of a civil form, as civilgps answers it. Writes nothing where there is no room for the longest answer.
@@ -37,5 +29,5 @@ pub fn answer_stamp(line: &[u8], out: &mut [u8]) -> usize
     if out.len() < LONGEST_ANSWER {
         return 0;
     }
-    answer::answer_stamp(line, out, 0)
+    inner::answer::answer_stamp(line, out, 0)
 }

@@ -1,14 +1,13 @@
 -- Bytes between two others: their number, their parts, and what is made of parts.
-use mathlib.Core.Path.{_≡_, refl, ap, _∙_}
+use mathlib.Core.Path.{_≡_, refl, sym, ap, _∙_}
 use mathlib.Core.Bool.{Bool, true, false, _&&_}
 use mathlib.Core.List.{List, [], _∷_, _++_}
 use Prim.Native.Nat.{ℕ, zero, suc, _+_, _<_, _≤_}
 use native.Mathlib.Numerals.{add-one}
 use native.Mathlib.Omega.{arith}
-use borrow.Author.Tests.{le-leb, lt-leb}
-use lib.Dec.{leb}
-use lib.ListN.{length, getD, take, drop}
-use lib.Seq.{drop-cons}
+use lib.Dec.{leb, lit≤}
+use lib.ListN.{length, getD, take, drop, take-append-drop}
+use lib.Seq.{drop-cons, take-take, length-take-le}
 use Rattle.digits.proofs.WayBack.{first-half, second-half}
 use Rattle.stamps.specs.Form.{within}
 
@@ -57,17 +56,32 @@ join (x ∷ l) (y ∷ h) (b ∷ s) m i t n e f =
     rw (first-half (leb x b && leb b y) (within l h s) e) (join l h s m i t (omega arith) (second-half (leb x b && leb b y) (within l h s) e) f)
 
 -- a turn of the test
-module _ (l h s : List ℕ) (i : ℕ) (in-l : i < length l) (in-h : i < length h) (in-s : i < length s) where
-  opened : within (drop i l) (drop i h) (drop i s)
-      ≡ ((leb (getD l i 0) (getD s i 0) && leb (getD s i 0) (getD h i 0)) && within (drop (i + 1) l) (drop (i + 1) h) (drop (i + 1) s))
-  opened = rw (add-one, drop-cons l i 0 in-l, drop-cons h i 0 in-h, drop-cons s i 0 in-s)
+pub opened : (l h s : List ℕ) (i : ℕ) → i < length l → i < length h → i < length s
+    → within (drop i l) (drop i h) (drop i s)
+    ≡ ((leb (getD l i 0) (getD s i 0) && leb (getD s i 0) (getD h i 0)) && within (drop (i + 1) l) (drop (i + 1) h) (drop (i + 1) s))
+opened l h s i in-l in-h in-s = rw (add-one, drop-cons l i 0 in-l, drop-cons h i 0 in-h, drop-cons s i 0 in-s)
 
-  pub too-low : getD s i 0 < getD l i 0 → within (drop i l) (drop i h) (drop i s) ≡ false
-  too-low e = opened ∙ rw (lt-leb (getD l i 0) (getD s i 0) e)
+-- of 30 bytes the first 16, and the last 16
+module _ (l h s : List ℕ) (long-l : length l ≡ 30) (long-h : length h ≡ 30) where
+  pub not-at-start : within (take 16 l) (take 16 h) (take 16 s) ≡ false → within l h s ≡ false
+  not-at-start f = by-test (within l h s) refl
+    where
+      by-test : (t : Bool) → within l h s ≡ t → t ≡ false
+      by-test true e = sym (start-within 16 l h s e) ∙ f
+      by-test false e = refl
 
-  pub too-high : getD l i 0 ≤ getD s i 0 → getD h i 0 < getD s i 0 → within (drop i l) (drop i h) (drop i s) ≡ false
-  too-high d e = opened ∙ rw (le-leb (getD l i 0) (getD s i 0) d, lt-leb (getD s i 0) (getD h i 0) e)
+  pub at-end : length s ≡ 30 → within (take 16 l) (take 16 h) (take 16 s) ≡ true → within (drop 14 l) (drop 14 h) (drop 14 s) ≡ within l h s
+  at-end long-s e = by-test (within (drop 14 l) (drop 14 h) (drop 14 s)) refl
+    where
+      start : within (take 14 l) (take 14 h) (take 14 s) ≡ true
+      start = rw (take-take 14 16 l (lit≤ tt), take-take 14 16 h (lit≤ tt), take-take 14 16 s (lit≤ tt)) at (start-within 14 (take 16 l) (take 16 h) (take 16 s) e)
 
-  pub between : getD l i 0 ≤ getD s i 0 → getD s i 0 ≤ getD h i 0
-      → within (drop i l) (drop i h) (drop i s) ≡ within (drop (i + 1) l) (drop (i + 1) h) (drop (i + 1) s)
-  between d e = opened ∙ rw (le-leb (getD l i 0) (getD s i 0) d, le-leb (getD s i 0) (getD h i 0) e)
+      by-test : (t : Bool) → within (drop 14 l) (drop 14 h) (drop 14 s) ≡ t → t ≡ within l h s
+      by-test true f =
+          sym (rw (take-append-drop 14 l, take-append-drop 14 h, take-append-drop 14 s) at
+          (join (take 14 l) (take 14 h) (take 14 s) (drop 14 l) (drop 14 h) (drop 14 s) (length-take-le 14 h (omega arith) ∙ sym (length-take-le 14 l (omega arith))) start f))
+      by-test false f = all (within l h s) refl
+        where
+          all : (t : Bool) → within l h s ≡ t → false ≡ t
+          all true g = sym f ∙ rest-within 14 l h s g
+          all false g = refl

@@ -37,11 +37,14 @@ module _ (s : List ℕ) (formed : within first last s ≡ true) where
     part-length : length (take k (drop at s)) ≡ k
     part-length = as-long (replicate k 48) (replicate k 57) (take k (drop at s)) part ∙ length-replicate k 48
 
+    pub all-digits : allDigits (take k (drop at s)) ≡ true
+    all-digits = digits-between k (take k (drop at s)) part
+
     pub below : valueOf (take k (drop at s)) < 10 ^ k
-    below = rw (zero-add, part-length) at (value-below (take k (drop at s)) 0 0 (digits-between k (take k (drop at s)) part) (lit< tt))
+    below = rw (zero-add, part-length) at (value-below (take k (drop at s)) 0 0 all-digits (lit< tt))
 
     pub same-digits : inDigits k (valueOf (take k (drop at s))) ≡ take k (drop at s)
-    same-digits = rw part-length at (digits-of-value (take k (drop at s)) (digits-between k (take k (drop at s)) part))
+    same-digits = rw part-length at (digits-of-value (take k (drop at s)) all-digits)
 
   pub fits : Fits (fieldsAt s)
   fits =

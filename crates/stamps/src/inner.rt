@@ -1,41 +1,60 @@
 // Bytes between two others, and the form written at a place where there is room for it.
 ghost use mathlib.Core.Path.{_≡_};
+ghost use mathlib.Core.Bool.{true, _&&_};
 ghost use Prim.Native.Nat.{_+_, _≤_, _<_, _^_};
+ghost use lib.Dec.{leb};
 ghost use lib.ListN.{length};
 ghost use lib.Seq.{sets};
-ghost use Rattle.stamps.specs.Form.{Fits, field, fieldsAt, within, written};
+ghost use Rattle.stamps.specs.Form.{Fits, field, fieldsAt, first, last, within, written};
 use crate::Stamp;
 use digits::inner::field;
 use digits::inner::put_four;
 use digits::inner::put_nine;
 use digits::inner::put_two;
 
-// Whether each byte lies from the one in `low` up to the one in `high`.
-pub fn within(low: &[u8], high: &[u8], s: &[u8]) -> bool
-    requires { ⌜ length (now low) ≡ length (now high) ⌝ }
-    ensures { λ r. ⌜ r ≡ within (now (low .entry)) (now (high .entry)) (now (s .entry)) ⌝ }
+// Whether a byte lies from one byte up to another.
+fn between(low: u8, b: u8, high: u8) -> bool
+    ensures { λ r. ⌜ r ≡ (leb low b && leb b high) ⌝ }
 {
-    if s.len() != low.len() {
-        return false;
-    }
-    let mut i: usize = 0;
-    while i < s.len() {
-        let b = s[i];
-        if b < low[i] {
-            return false;
-        }
-        if b > high[i] {
-            return false;
-        }
-        i += 1;
-    }
-    true
+    (low <= b) & (b <= high)
 }
 
-// The fields at their places, where each fits its type.
+// Whether each byte lies from the one in `low` up to the one in `high`. All are tested, so that there is no branch.
+fn each_within(low: &[u8], high: &[u8], s: &[u8]) -> bool
+    requires { ⌜ length (now low) ≡ length (now s) ⌝ }
+    requires { ⌜ length (now high) ≡ length (now s) ⌝ }
+    ensures { λ r. ⌜ r ≡ within (now (low .entry)) (now (high .entry)) (now (s .entry)) ⌝ }
+{
+    let mut inside = true;
+    let mut i: usize = 0;
+    while i < s.len() {
+        inside = inside & between(low[i], s[i], high[i]);
+        i += 1;
+    }
+    inside
+}
+
+// The same of 30 bytes, as many as in `low` and in `high`: sixteen and sixteen, with two in both.
+pub fn within(low: &[u8], high: &[u8], s: &[u8]) -> bool
+    requires { ⌜ length (now low) ≡ 30 ⌝ }
+    requires { ⌜ length (now high) ≡ 30 ⌝ }
+    ensures { λ r. ⌜ r ≡ within (now (low .entry)) (now (high .entry)) (now (s .entry)) ⌝ }
+{
+    if s.len() != 30 {
+        return false;
+    }
+    if each_within(&low[0..16], &high[0..16], &s[0..16]) {
+        each_within(&low[14..30], &high[14..30], &s[14..30])
+    } else {
+        false
+    }
+}
+
+// The fields of bytes in the form, at their places. Each fits its type.
 pub fn fields(s: &[u8]) -> Stamp
     requires { ⌜ length (now s) ≡ 30 ⌝ }
     requires { ⌜ Fits (fieldsAt (now s)) ⌝ }
+    requires { ⌜ within first last (now s) ≡ true ⌝ }
     ensures { λ r. ⌜ r ≡ fieldsAt (now (s .entry)) ⌝ }
 {
     Stamp {

@@ -15,7 +15,7 @@ fields-requires : tie.Need-fields-requires
 fields-requires c κs =
     let start = c .before .before .before .before .before .before .before in
     let formed = sym (c .before .within .ensures) ∙ c .if1 .taken in
-    (long (now (start .args .s)) formed, fits (now (start .args .s)) formed)
+    (long (now (start .args .s)) formed, (fits (now (start .args .s)) formed, formed))
 
 returns : tie.Need-returns
 returns c =

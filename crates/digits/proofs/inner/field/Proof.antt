@@ -1,34 +1,50 @@
 -- `field` meets its contract. The invariant: the field's bytes from the i-th on say, behind `value`, what all of them say.
 use mathlib.Core.Path.{_≡_, sym, _∙_}
-use Prim.Native.Nat.{_+_, _-_, _*_, _^_, _≤_}
-use native.Mathlib.Nat.{add-zero, sub-zero}
+use mathlib.Core.Bool.{true}
+use mathlib.Core.List.{List, [], _∷_}
+use Prim.Native.Nat.{ℕ, _+_, _-_, _*_, _^_, _<_, _≤_}
+use native.Mathlib.Nat.{add-zero, sub-zero, pow-suc, pow-le-pow-right}
+use native.Mathlib.Numerals.{add-one}
 use native.Mathlib.Omega.{arith}
 use borrow.Author.Needs.{needs}
 use denote.Ref.{now}
-use lib.ListN.{take, drop}
-use Rattle.digits.specs.Decimal.{valueFrom, valueOf}
-use Rattle.digits.proofs.Reading.{field-turn, field-room, field-small}
+use lib.Dec.{lit<}
+use lib.ListN.{getD, take, drop}
+use Rattle.digits.specs.Decimal.{isDigit, allDigits, valueFrom, valueOf}
+use Rattle.digits.proofs.Reading.{field-turn}
+use Rattle.digits.proofs.WayBack.{first-half, second-half, digit-bounds}
 use Rattle.digits.proofs.inner.field.Statement.{statement}
 use Rattle.digits.proofs.inner.field.Tie as tie
 
 abbrev Inv-loop : tie.InvT-loop
 Inv-loop s at width value₀ i₀ value i =
-    (valueOf (take width (drop at s)) ≡ valueFrom value (take (width - i) (drop (at + i) s))) × (value + 23 ≤ 23 * 10 ^ i) × (i ≤ width)
+    (valueOf (take width (drop at s)) ≡ valueFrom value (take (width - i) (drop (at + i) s))) × (allDigits (take (width - i) (drop (at + i) s)) ≡ true) × (value < 10 ^ i) × (i ≤ width)
 
 abbrev μ-loop : tie.MeasureT-loop
 μ-loop s at width value₀ i₀ value i = width - i
 
--- a byte adds at most 207, 255 less 48
-byte : (c : tie.After-digit Inv-loop μ-loop) → c .digit .result ≤ 207
-byte c =
-    let at-loop = c .before .before .before in
-    omega (arith, c .digit .ensures, c .before .shared-slice-known2 .given (at-loop .before .before .args .at + at-loop .loop .i))
+-- the next byte is a digit
+module _ (c : tie.In-loop Inv-loop μ-loop) where
+  abbrev turn : tie.At-loop Inv-loop μ-loop
+  turn = c .before
+
+  abbrev bytes : List ℕ
+  bytes = now (turn .before .before .args .s)
+
+  abbrev place : ℕ
+  place = turn .before .before .args .at + turn .loop .i
+
+  split : allDigits (getD bytes place 0 ∷ take (turn .before .before .args .width - (turn .loop .i + 1)) (drop (turn .before .before .args .at + (turn .loop .i + 1)) bytes)) ≡ true
+  split = rw (field-turn bytes (turn .before .before .args .at) (turn .before .before .args .width) (turn .loop .i) (omega arith) (omega arith)) at (turn .loop .inv .1)
+
+  a-digit : (48 ≤ getD bytes place 0) × (getD bytes place 0 ≤ 57)
+  a-digit = digit-bounds (getD bytes place 0) (first-half (isDigit (getD bytes place 0)) _ split)
 
 loop-holds : tie.Need-loop-holds Inv-loop μ-loop
-loop-holds c = (rw (add-zero, sub-zero), omega arith, omega arith)
+loop-holds c = (rw (add-zero, sub-zero), rw (add-zero, sub-zero) (c .before .pre .1 .1), omega arith, omega arith)
 
 mul-value : tie.Need-mul-value Inv-loop μ-loop
-mul-value c = omega (arith, field-small (c .before .loop .value) (c .before .loop .i) (c .before .loop .inv .1) (omega arith))
+mul-value c = omega (arith, pow-le-pow-right {n = 10} (lit< tt) {i = c .before .loop .i} {j = 9} (omega arith))
 
 add-digit : tie.Need-add-digit Inv-loop μ-loop
 add-digit c = search needs
@@ -37,10 +53,12 @@ shared-slice-read-digit : tie.Need-shared-slice-read-digit Inv-loop μ-loop
 shared-slice-read-digit c = search needs
 
 digit-requires : tie.Need-digit-requires Inv-loop μ-loop
-digit-requires c κs = search needs
+digit-requires c κs = omega (arith, a-digit (c .before) .0)
 
 add-value : tie.Need-add-value Inv-loop μ-loop
-add-value c = omega (arith, byte c, field-small (c .before .before .before .loop .value) (c .before .before .before .loop .i) (c .before .before .before .loop .inv .1) (omega arith))
+add-value c =
+    let turn = c .before .before .before in
+    omega (arith, c .digit .ensures, a-digit (c .before .before) .1, pow-le-pow-right {n = 10} (lit< tt) {i = turn .loop .i} {j = 9} (omega arith))
 
 add-i : tie.Need-add-i Inv-loop μ-loop
 add-i c = search needs
@@ -55,7 +73,8 @@ loop-again c =
     let v = at-loop .loop .value in
     let i = at-loop .loop .i in (
       at-loop .loop .inv .0 ∙ rw (field-turn (now (a .s)) (a .at) (a .width) i (omega arith) (omega arith), c .digit .ensures),
-      field-room v i (c .digit .result) (at-loop .loop .inv .1) (byte c),
+      second-half (isDigit (getD (now (a .s)) (a .at + i) 0)) _ (split (c .before .before)),
+      rw add-one (omega (arith, c .digit .ensures, a-digit (c .before .before) .1, pow-suc 10 i)),
       omega arith,
     )
 

@@ -1,50 +1,29 @@
--- `places` meets its contract. The invariant: `more` digits are taken off, and the places of the rest are those that are left.
-use mathlib.Core.Path.{_≡_, sym, _∙_}
-use Prim.Native.Nat.{_+_, _-_, _^_, _<_, _≤_}
-use native.Mathlib.Nat.{zero-add}
+-- `places` meets its contract: a number from 10 ^ 16 on has as many digits as the powers of ten around it tell.
+use mathlib.Core.Path.{sym}
 use native.Mathlib.Omega.{arith}
 use borrow.Author.Needs.{needs}
-use Rattle.digits.specs.Decimal.{placesUpTo}
-use Rattle.digits.proofs.Writing.{last-place, next-place, next-small, another}
+use Rattle.digits.proofs.Writing.{places-are}
 use Rattle.digits.proofs.inner.places.Statement.{statement}
 use Rattle.digits.proofs.inner.places.Tie as tie
 
-abbrev Inv-loop : tie.InvT-loop
-Inv-loop n more₀ rest₀ more rest = (placesUpTo 20 n ≡ more + placesUpTo (20 - more) rest) × (rest < 10 ^ (20 - more)) × (more ≤ 19)
+counted-places-requires : tie.Need-counted-places-requires
+counted-places-requires c κs = search needs
 
-abbrev μ-loop : tie.MeasureT-loop
-μ-loop n more₀ rest₀ more rest = rest
+returns : tie.Need-returns
+returns c = search needs
 
-loop-holds : tie.Need-loop-holds Inv-loop μ-loop
-loop-holds c = (sym (zero-add _), omega arith, omega arith)
+returns-2 : tie.Need-returns-2
+returns-2 c = (sym (places-are 16 3 (c .before .before .args .n) (omega arith) (omega arith)), omega arith)
 
-add-more : tie.Need-add-more Inv-loop μ-loop
-add-more c = search needs
+returns-3 : tie.Need-returns-3
+returns-3 c = (sym (places-are 17 2 (c .before .before .before .args .n) (omega arith) (omega arith)), omega arith)
 
-loop-less : tie.Need-loop-less Inv-loop μ-loop
-loop-less c = search needs
+returns-4 : tie.Need-returns-4
+returns-4 c = (sym (places-are 18 1 (c .before .before .before .before .args .n) (omega arith) (omega arith)), omega arith)
 
-loop-again : tie.Need-loop-again Inv-loop μ-loop
-loop-again c =
-    let h = c .before .loop .inv in
-    let more = c .before .loop .more in
-    let rest = c .before .loop .rest in
-    let big : 10 ≤ rest = c .loop-test .taken in
-    let fewer : 20 - more - 1 ≡ 20 - (more + 1) = omega arith in (
-      h .0 ∙ rw (next-place (20 - more) rest (h .1) big, fewer) (omega arith),
-      rw fewer at (next-small (20 - more) rest (h .1) big),
-      omega (arith, another (20 - more) rest (h .1) big),
-    )
-
-add-result : tie.Need-add-result Inv-loop μ-loop
-add-result c = search needs
-
-returns : tie.Need-returns Inv-loop μ-loop
-returns c =
-    let h = c .before .loop .inv in
-    (sym (h .0 ∙ rw (last-place (20 - c .before .loop .more) (c .before .loop .rest) (omega arith) (c .loop-test .left))), omega arith)
+returns-5 : tie.Need-returns-5
+returns-5 c = (sym (places-are 19 0 (c .before .before .before .before .args .n) (omega arith) (omega arith)), omega arith)
 
 pub places-spec : {M : Type 1} → statement M
 places-spec =
-    tie.close
-    (tie.spec Inv-loop μ-loop loop-holds add-more loop-less loop-again add-result returns)
+    tie.close (tie.spec counted-places-requires returns returns-2 returns-3 returns-4 returns-5)

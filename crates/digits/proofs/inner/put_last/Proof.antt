@@ -1,14 +1,15 @@
 -- `put_last` meets its contract. The invariant: the digits behind `left` are written, and `rest` is the number without them.
-use mathlib.Core.Path.{_≡_, refl, _∙_}
-use Prim.Native.Nat.{_+_, _-_, _/_, _^_, _≤_}
+use mathlib.Core.Path.{_≡_, refl, sym, ap, _∙_}
+use mathlib.Core.List.{List}
+use Prim.Native.Nat.{ℕ, _+_, _-_, _/_, _^_, _≤_}
 use native.Mathlib.Nat.{add-zero, sub-zero, sub-self, div-one}
 use native.Mathlib.Omega.{arith}
 use borrow.Author.Needs.{needs}
 use denote.Ref.{now}
-use lib.ListN.{length, set, length-set}
+use lib.ListN.{length}
 use lib.Seq.{sets}
 use Rattle.digits.specs.Decimal.{inDigits}
-use Rattle.digits.proofs.Writing.{one-more, one-less}
+use Rattle.digits.proofs.Writing.{of-remainder, some-more, some-less}
 use Rattle.digits.proofs.inner.put_last.Statement.{statement}
 use Rattle.digits.proofs.inner.put_last.Tie as tie
 
@@ -21,44 +22,49 @@ abbrev μ-loop : tie.MeasureT-loop
 loop-holds : tie.Need-loop-holds Inv-loop μ-loop
 loop-holds c = (omega arith, rw sub-self, rw (sub-self, div-one), refl)
 
-sub-left : tie.Need-sub-left Inv-loop μ-loop
-sub-left c = search needs
+add-put-four : tie.Need-add-put-four Inv-loop μ-loop
+add-put-four c = search needs
 
-add-out : tie.Need-add-out Inv-loop μ-loop
-add-out c = search needs
+cast-put-four : tie.Need-cast-put-four Inv-loop μ-loop
+cast-put-four c = search needs
 
-cast-out : tie.Need-cast-out Inv-loop μ-loop
-cast-out c = search needs
-
-add-out-2 : tie.Need-add-out-2 Inv-loop μ-loop
-add-out-2 c = search needs
-
-slice-write-out : tie.Need-slice-write-out Inv-loop μ-loop
-slice-write-out c = search needs
+put-four-requires : tie.Need-put-four-requires Inv-loop μ-loop
+put-four-requires c κs = search needs
 
 loop-less : tie.Need-loop-less Inv-loop μ-loop
 loop-less c = search needs
 
 loop-again : tie.Need-loop-again Inv-loop μ-loop
 loop-again c =
-    let at-loop = c .before in
+    let four = c .before .before in
+    let at-loop = four .before .before .before in
     let h = at-loop .loop .inv in
-    let a = at-loop .before .args in
+    let a = at-loop .before .before .args in
     let left = at-loop .loop .left in (
       omega arith,
-      rw (h .1, h .2) (one-more (now (a .out)) (a .at) left (a .width) (a .n) (c .loop-test .taken) (h .0)),
-      rw (h .2) (one-less (now (a .out)) (a .at) left (a .width) (a .n) (c .loop-test .taken) (h .0)),
-      simp length-set (h .3),
+      four .put-four .ensures
+          ∙ ap (sets (at-loop .loop .out) (a .at + (left - 4))) (of-remainder 4 (at-loop .loop .rest))
+          ∙ rw (h .1, h .2) (some-more 4 (now (a .out)) (a .at) left (a .width) (a .n) (omega arith) (h .0)),
+      rw (h .2) (some-less 4 (now (a .out)) (a .at) left (a .width) (a .n) (omega arith) (h .0)),
+      four .put-four .kept .0 ∙ h .3,
     )
 
+put-ones-requires : tie.Need-put-ones-requires Inv-loop μ-loop
+put-ones-requires c κs = search needs
+
 same-length : tie.Need-same-length Inv-loop μ-loop
-same-length c = c .before .loop .inv .3
+same-length c = c .before .before .put-ones .kept .0 ∙ c .before .before .before .before .before .loop .inv .3
 
 returns : tie.Need-returns Inv-loop μ-loop
 returns c =
-    let h = c .before .loop .inv in
-    let none : c .before .loop .left ≡ 0 = omega arith in
-    h .1 ∙ rw (none, add-zero, sub-zero)
+    let ones = c .before .before in
+    let at-loop = ones .before .before .before in
+    let h = at-loop .loop .inv in
+    let a = at-loop .before .before .args in
+    let left = at-loop .loop .left in
+    let none : left - left ≡ 0 = omega arith in
+    ones .put-ones .ensures
+    ∙ rw (h .1, h .2) (rw (none, sub-zero, add-zero) at (some-more left (now (a .out)) (a .at) left (a .width) (a .n) (omega arith) (h .0)))
 
 pub put-last-spec : {M : Type 1} → statement M
 put-last-spec =
@@ -67,12 +73,11 @@ put-last-spec =
     Inv-loop
     μ-loop
     loop-holds
-    sub-left
-    add-out
-    cast-out
-    add-out-2
-    slice-write-out
+    add-put-four
+    cast-put-four
+    put-four-requires
     loop-less
     loop-again
+    put-ones-requires
     same-length
     returns)

@@ -1,13 +1,20 @@
--- `last` is safe: no answer has more bytes than there is room for.
+-- `last` meets its contract: the write is handed the answer to the line that has begun.
+use mathlib.Core.List.{List}
+use Prim.Native.Nat.{ℕ, _≤_}
 use native.Mathlib.Omega.{arith}
-use borrow.Author.Needs.{needs}
 use denote.Ref.{now}
-use lib.ListN.{take}
+use lib.ListN.{length, take}
 use Rattle.lines.specs.Answers.{answerTo}
+use Rattle.lines.specs.Pieces.{atEnd}
+use Rattle.lines.specs.declared.Way.{Way}
 use Rattle.lines.proofs.Outcomes.{answer-short}
-use Rattle.lines.proofs.Sound.{end-short}
+use Rattle.lines.proofs.Cutting.{end-short, handed}
+use borrow.Author.Needs.{needs}
 use Rattle.lines.proofs.inner.last.Statement.{statement}
 use Rattle.lines.proofs.inner.last.Tie as tie
+
+room : (way : Way) (l : List ℕ) → length (atEnd (answerTo way) l) ≤ 31
+room way l = end-short (answerTo way) (answer-short way) l
 
 finish-requires : tie.Need-finish-requires
 finish-requires c κs = search needs
@@ -22,28 +29,28 @@ part-write-all-end : tie.Need-part-write-all-end
 part-write-all-end c =
     let end = c .before .before .before in
     let a = end .before .before .before .before .args in
-    omega (arith, end .finish .ensures .0, end-short (answerTo (a .way)) (answer-short (a .way)) (take (a .used) (now (a .line))))
+    omega (arith, end .finish .ensures .0, room (a .way) (take (a .used) (now (a .line))))
 
 write-all-requires : tie.Need-write-all-requires
 write-all-requires c κs = search needs
-
-slice-aggregate-say : tie.Need-slice-aggregate-say
-slice-aggregate-say c = search needs
-
-say-requires : tie.Need-say-requires
-say-requires c κs = search needs
 
 same-length : tie.Need-same-length
 same-length c = search needs
 
 returns : tie.Need-returns
-returns c = search needs
+returns c =
+    let end = c .before .before .before .before .before .before in
+    let a = end .before .before .before .before .args in
+    handed (atEnd (answerTo (a .way)) (take (a .used) (now (a .line)))) (now (a .out)) _ _ (omega (arith, room (a .way) (take (a .used) (now (a .line))))) (end .finish .ensures)
 
 same-length-2 : tie.Need-same-length-2
 same-length-2 c = search needs
 
 returns-2 : tie.Need-returns-2
-returns-2 c = search needs
+returns-2 c =
+    let end = c .before .before .before .before .before .before in
+    let a = end .before .before .before .before .args in
+    handed (atEnd (answerTo (a .way)) (take (a .used) (now (a .line)))) (now (a .out)) _ _ (omega (arith, room (a .way) (take (a .used) (now (a .line))))) (end .finish .ensures)
 
 pub last-spec : {M : Type 1} → statement M
 last-spec =
@@ -54,8 +61,6 @@ last-spec =
     part-write-all-start
     part-write-all-end
     write-all-requires
-    slice-aggregate-say
-    say-requires
     same-length
     returns
     same-length-2

@@ -1,46 +1,58 @@
 -- `fields` meets its contract: each field is the value of its bytes.
+use mathlib.Core.Path.{_≡_, refl}
+use mathlib.Core.Bool.{true}
+use Prim.Native.Nat.{ℕ}
+use native.Mathlib.Omega.{arith}
 use borrow.Author.Needs.{needs}
+use denote.Ref.{now}
+use lib.ListN.{take, drop, replicate}
+use Rattle.digits.specs.Decimal.{allDigits}
+use Rattle.stamps.specs.Form.{first, last}
+use Rattle.stamps.proofs.Fields.{all-digits}
 use Rattle.stamps.proofs.inner.fields.Statement.{statement}
 use Rattle.stamps.proofs.inner.fields.Tie as tie
 
+digits-at : (c : tie.Start) (k at : ℕ) → take k (drop at first) ≡ replicate k 48 → take k (drop at last) ≡ replicate k 57 → allDigits (take k (drop at (now (c .args .s)))) ≡ true
+digits-at c k at zeros nines = all-digits (now (c .args .s)) (c .pre .1 .1) k at zeros nines
+
 field-requires : tie.Need-field-requires
-field-requires c κs = search needs
+field-requires c κs = (omega arith, (omega arith, digits-at (c .before) 4 0 refl refl))
 
 cast-t3 : tie.Need-cast-t3
 cast-t3 c = search needs
 
 field-requires-2 : tie.Need-field-requires-2
-field-requires-2 c κs = search needs
+field-requires-2 c κs = (omega arith, (omega arith, digits-at (c .before .before) 2 5 refl refl))
 
 cast-t5 : tie.Need-cast-t5
 cast-t5 c = search needs
 
 field-requires-3 : tie.Need-field-requires-3
-field-requires-3 c κs = search needs
+field-requires-3 c κs = (omega arith, (omega arith, digits-at (c .before .before .before) 2 8 refl refl))
 
 cast-t7 : tie.Need-cast-t7
 cast-t7 c = search needs
 
 field-requires-4 : tie.Need-field-requires-4
-field-requires-4 c κs = search needs
+field-requires-4 c κs = (omega arith, (omega arith, digits-at (c .before .before .before .before) 2 11 refl refl))
 
 cast-t9 : tie.Need-cast-t9
 cast-t9 c = search needs
 
 field-requires-5 : tie.Need-field-requires-5
-field-requires-5 c κs = search needs
+field-requires-5 c κs = (omega arith, (omega arith, digits-at (c .before .before .before .before .before) 2 14 refl refl))
 
 cast-t11 : tie.Need-cast-t11
 cast-t11 c = search needs
 
 field-requires-6 : tie.Need-field-requires-6
-field-requires-6 c κs = search needs
+field-requires-6 c κs = (omega arith, (omega arith, digits-at (c .before .before .before .before .before .before) 2 17 refl refl))
 
 cast-t13 : tie.Need-cast-t13
 cast-t13 c = search needs
 
 field-requires-7 : tie.Need-field-requires-7
-field-requires-7 c κs = search needs
+field-requires-7 c κs = (omega arith, (omega arith, digits-at (c .before .before .before .before .before .before .before) 9 20 refl refl))
 
 cast-t15 : tie.Need-cast-t15
 cast-t15 c = search needs

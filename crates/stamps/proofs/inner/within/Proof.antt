@@ -1,89 +1,126 @@
--- `within` meets its contract. The invariant: the bytes from `i` on are within where all of them are.
-use mathlib.Core.Path.{_≡_, refl, sym, _∙_}
-use Prim.Native.Nat.{_-_, _≤_}
+-- `within` meets its contract: what the first sixteen bytes and the last sixteen say together is said of all thirty.
+use mathlib.Core.Path.{_≡_, sym, _∙_}
+use mathlib.Core.List.{List}
+use Prim.Native.Nat.{ℕ}
 use native.Mathlib.Omega.{arith}
 use borrow.Author.Needs.{needs}
 use denote.Ref.{now}
-use lib.ListN.{length, drop, drop-of-length-le}
+use lib.ListN.{length, take, drop, length-drop}
+use lib.Seq.{take-all}
 use Rattle.stamps.specs.Form.{within}
-use Rattle.stamps.proofs.Between.{not-as-long, too-low, too-high, between}
+use Rattle.stamps.proofs.Between.{not-as-long, not-at-start, at-end}
 use Rattle.stamps.proofs.inner.within.Statement.{statement}
 use Rattle.stamps.proofs.inner.within.Tie as tie
 
-abbrev Inv-loop : tie.InvT-loop
-Inv-loop low high s i₀ i = (within low high s ≡ within (drop i low) (drop i high) (drop i s)) × (i ≤ length s)
+all-16 : (l : List ℕ) → length l ≡ 30 → take 16 (drop 14 l) ≡ drop 14 l
+all-16 l e = take-all 16 (drop 14 l) (omega (arith, length-drop 14 l))
 
-abbrev μ-loop : tie.MeasureT-loop
-μ-loop low high s i₀ i = length s - i
-
-returns : tie.Need-returns Inv-loop μ-loop
+returns : tie.Need-returns
 returns c =
-    let a = c .before .args in
-    sym (not-as-long (now (a .low)) (now (a .high)) (now (a .s)) (c .if1 .taken))
+    let start = c .before .before .before .before in
+    let a = start .args in
+    sym (not-as-long (now (a .low)) (now (a .high)) (now (a .s)) (λ e. c .if1 .taken (e ∙ start .pre .0)))
 
-loop-holds : tie.Need-loop-holds Inv-loop μ-loop
-loop-holds c = (refl, omega arith)
+sub-each-within : tie.Need-sub-each-within
+sub-each-within c = search needs
 
-shared-slice-read-b : tie.Need-shared-slice-read-b Inv-loop μ-loop
-shared-slice-read-b c = search needs
+part-each-within-start : tie.Need-part-each-within-start
+part-each-within-start c = search needs
 
-shared-slice-read-if2 : tie.Need-shared-slice-read-if2 Inv-loop μ-loop
-shared-slice-read-if2 c = search needs
+part-each-within-end : tie.Need-part-each-within-end
+part-each-within-end c = search needs
 
-returns-2 : tie.Need-returns-2 Inv-loop μ-loop
+sub-each-within-2 : tie.Need-sub-each-within-2
+sub-each-within-2 c = search needs
+
+part-each-within-start-2 : tie.Need-part-each-within-start-2
+part-each-within-start-2 c = search needs
+
+part-each-within-end-2 : tie.Need-part-each-within-end-2
+part-each-within-end-2 c = search needs
+
+sub-each-within-3 : tie.Need-sub-each-within-3
+sub-each-within-3 c = search needs
+
+part-each-within-start-3 : tie.Need-part-each-within-start-3
+part-each-within-start-3 c = search needs
+
+part-each-within-end-3 : tie.Need-part-each-within-end-3
+part-each-within-end-3 c = search needs
+
+each-within-requires : tie.Need-each-within-requires
+each-within-requires c κs = search needs
+
+sub-each-within-4 : tie.Need-sub-each-within-4
+sub-each-within-4 c = search needs
+
+part-each-within-start-4 : tie.Need-part-each-within-start-4
+part-each-within-start-4 c = search needs
+
+part-each-within-end-4 : tie.Need-part-each-within-end-4
+part-each-within-end-4 c = search needs
+
+sub-each-within-5 : tie.Need-sub-each-within-5
+sub-each-within-5 c = search needs
+
+part-each-within-start-5 : tie.Need-part-each-within-start-5
+part-each-within-start-5 c = search needs
+
+part-each-within-end-5 : tie.Need-part-each-within-end-5
+part-each-within-end-5 c = search needs
+
+sub-each-within-6 : tie.Need-sub-each-within-6
+sub-each-within-6 c = search needs
+
+part-each-within-start-6 : tie.Need-part-each-within-start-6
+part-each-within-start-6 c = search needs
+
+part-each-within-end-6 : tie.Need-part-each-within-end-6
+part-each-within-end-6 c = search needs
+
+each-within-requires-2 : tie.Need-each-within-requires-2
+each-within-requires-2 c κs = search needs
+
+returns-2 : tie.Need-returns-2
 returns-2 c =
-    let at = c .before .before .before .before in
-    let a = at .before .before .args in
-    sym (at .loop .inv .0 ∙ too-low (now (a .low)) (now (a .high)) (now (a .s)) (at .loop .i) (omega arith) (omega arith) (omega arith) (c .if2 .taken))
+    let first = c .before .before .before .before in
+    let start = first .before .before .before .before .before .before .before .before .before in
+    let a = start .args in
+    let parts : within (take 16 (drop 14 (now (a .low)))) (take 16 (drop 14 (now (a .high)))) (take 16 (drop 14 (now (a .s)))) ≡ within (drop 14 (now (a .low))) (drop 14 (now (a .high))) (drop 14 (now (a .s)))
+    = rw (all-16 (now (a .low)) (omega arith), all-16 (now (a .high)) (omega arith), all-16 (now (a .s)) (omega arith)) in
+    c .each-within2 .ensures ∙ parts
+    ∙ at-end (now (a .low)) (now (a .high)) (now (a .s)) (start .pre .0) (start .pre .1) (omega arith) (sym (first .before .each-within .ensures) ∙ first .if2 .taken)
 
-shared-slice-read-if3 : tie.Need-shared-slice-read-if3 Inv-loop μ-loop
-shared-slice-read-if3 c = search needs
-
-returns-3 : tie.Need-returns-3 Inv-loop μ-loop
+returns-3 : tie.Need-returns-3
 returns-3 c =
-    let low = c .before .before in
-    let at = low .before .before .before .before in
-    let a = at .before .before .args in
-    sym (at .loop .inv .0 ∙ too-high (now (a .low)) (now (a .high)) (now (a .s)) (at .loop .i) (omega arith) (omega arith) (omega arith) (low .if2 .left) (c .if3 .taken))
-
-add-i : tie.Need-add-i Inv-loop μ-loop
-add-i c = search needs
-
-loop-less : tie.Need-loop-less Inv-loop μ-loop
-loop-less c = search needs
-
-loop-again : tie.Need-loop-again Inv-loop μ-loop
-loop-again c =
-    let low = c .before .before in
-    let at = low .before .before .before .before in
-    let a = at .before .before .args in (
-      at .loop .inv .0 ∙ between (now (a .low)) (now (a .high)) (now (a .s)) (at .loop .i) (omega arith) (omega arith) (omega arith) (low .if2 .left) (c .if3 .left),
-      omega arith,
-    )
-
-returns-4 : tie.Need-returns-4 Inv-loop μ-loop
-returns-4 c =
-    let at = c .before in
-    let a = at .before .before .args in
-    let i = at .loop .i in
-    sym
-    (at .loop .inv .0
-    ∙ rw (drop-of-length-le (now (a .low)) {i = i} (omega arith), drop-of-length-le (now (a .s)) {i = i} (omega arith)))
+    let start = c .before .before .before .before .before .before .before .before .before in
+    let a = start .args in
+    sym (not-at-start (now (a .low)) (now (a .high)) (now (a .s)) (start .pre .0) (start .pre .1) (sym (c .before .each-within .ensures) ∙ c .if2 .left))
 
 pub within-spec : {M : Type 1} → statement M
 within-spec =
     tie.close
     (tie.spec
-    Inv-loop
-    μ-loop
     returns
-    loop-holds
-    shared-slice-read-b
-    shared-slice-read-if2
+    sub-each-within
+    part-each-within-start
+    part-each-within-end
+    sub-each-within-2
+    part-each-within-start-2
+    part-each-within-end-2
+    sub-each-within-3
+    part-each-within-start-3
+    part-each-within-end-3
+    each-within-requires
+    sub-each-within-4
+    part-each-within-start-4
+    part-each-within-end-4
+    sub-each-within-5
+    part-each-within-start-5
+    part-each-within-end-5
+    sub-each-within-6
+    part-each-within-start-6
+    part-each-within-end-6
+    each-within-requires-2
     returns-2
-    shared-slice-read-if3
-    returns-3
-    add-i
-    loop-less
-    loop-again
-    returns-4)
+    returns-3)

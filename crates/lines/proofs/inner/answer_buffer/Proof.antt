@@ -1,0 +1,12 @@
+-- `answer_buffer` has as many zeros as it says. The law says so without counting them.
+use mathlib.Core.Path.{sym}
+use Prim.Native.Nat.{ℕ}
+use lib.ListN.{length-replicate}
+use Rattle.lines.proofs.inner.answer_buffer.Statement.{statement}
+use Rattle.lines.proofs.inner.answer_buffer.Tie as tie
+
+returns : tie.Need-returns
+returns c = sym (length-replicate {A = ℕ} 1015808 0)
+
+pub answer-buffer-spec : {M : Type 1} → statement M
+answer-buffer-spec = tie.close (tie.spec returns)

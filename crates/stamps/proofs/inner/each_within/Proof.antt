@@ -1,0 +1,76 @@
+-- `each_within` meets its contract. The invariant: all bytes are within where those before `i` are, and those from `i` on.
+use mathlib.Core.Path.{_≡_, refl, sym, ap, _∙_}
+use mathlib.Core.Bool.{Bool, _&&_, and-true, and-assoc}
+use Prim.Native.Nat.{_+_, _-_, _≤_}
+use native.Mathlib.Omega.{arith}
+use borrow.Author.Needs.{needs}
+use denote.Ref.{now}
+use lib.ListN.{length, drop, drop-of-length-le}
+use Rattle.stamps.specs.Form.{within}
+use Rattle.stamps.proofs.Between.{opened}
+use Rattle.stamps.proofs.inner.each_within.Statement.{statement}
+use Rattle.stamps.proofs.inner.each_within.Tie as tie
+
+abbrev Inv-loop : tie.InvT-loop
+Inv-loop low high s inside₀ i₀ inside i = (within low high s ≡ (inside && within (drop i low) (drop i high) (drop i s))) × (i ≤ length s)
+
+abbrev μ-loop : tie.MeasureT-loop
+μ-loop low high s inside₀ i₀ inside i = length s - i
+
+loop-holds : tie.Need-loop-holds Inv-loop μ-loop
+loop-holds c = (refl, omega arith)
+
+shared-slice-read-between : tie.Need-shared-slice-read-between Inv-loop μ-loop
+shared-slice-read-between c = search needs
+
+shared-slice-read-between-2 : tie.Need-shared-slice-read-between-2 Inv-loop μ-loop
+shared-slice-read-between-2 c = search needs
+
+shared-slice-read-between-3 : tie.Need-shared-slice-read-between-3 Inv-loop μ-loop
+shared-slice-read-between-3 c = search needs
+
+between-requires : tie.Need-between-requires Inv-loop μ-loop
+between-requires c κs = search needs
+
+add-i : tie.Need-add-i Inv-loop μ-loop
+add-i c = search needs
+
+loop-less : tie.Need-loop-less Inv-loop μ-loop
+loop-less c = search needs
+
+loop-again : tie.Need-loop-again Inv-loop μ-loop
+loop-again c =
+    let at = c .before .before .before .before .before in
+    let a = at .before .before .before .before .args in
+    let rest = within (drop (at .loop .i + 1) (now (a .low))) (drop (at .loop .i + 1) (now (a .high))) (drop (at .loop .i + 1) (now (a .s))) in (
+      at .loop .inv .0
+          ∙ ap (λ (t : Bool). at .loop .inside && t)
+          (opened (now (a .low)) (now (a .high)) (now (a .s)) (at .loop .i) (omega arith) (omega arith) (omega arith) ∙ ap (λ (t : Bool). t && rest) (sym (c .between .ensures)))
+          ∙ sym (and-assoc (at .loop .inside) (c .between .result) rest),
+      omega arith,
+    )
+
+returns : tie.Need-returns Inv-loop μ-loop
+returns c =
+    let at = c .before in
+    let a = at .before .before .before .before .args in
+    let i = at .loop .i in
+    sym
+    (at .loop .inv .0
+    ∙ rw (drop-of-length-le (now (a .low)) {i = i} (omega arith), drop-of-length-le (now (a .s)) {i = i} (omega arith), and-true (at .loop .inside)))
+
+pub each-within-spec : {M : Type 1} → statement M
+each-within-spec =
+    tie.close
+    (tie.spec
+    Inv-loop
+    μ-loop
+    loop-holds
+    shared-slice-read-between
+    shared-slice-read-between-2
+    shared-slice-read-between-3
+    between-requires
+    add-i
+    loop-less
+    loop-again
+    returns)
