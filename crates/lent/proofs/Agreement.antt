@@ -5,16 +5,20 @@ use Prim.Native.Nat.{ℕ}
 use native.Mathlib.Omega.{arith}
 use native.Mathlib.Decide.{ℕ-discrete}
 use borrow.Author.Tests.{le-leb}
-use Rattle.tables.specs.Entries.{firstRefusal, building, checking}
-use Rattle.tables.specs.Slots.{built}
+use Rattle.refusals.specs.Outcome.{answered}
+use Rattle.tables.specs.Entries.{offsetAt, firstRefusal, building, checking}
+use Rattle.tables.specs.Slots.{entriesOf, built}
 use Rattle.tables.specs.declared.LeapTable.{LeapTable}
 use Rattle.tables.proofs.Growing.{entry-refused, all-taken}
 use Rattle.tables.proofs.Buildings.{building-builds}
 use Rattle.tables.proofs.Tells.{taken-tells, offset-tells}
-use Rattle.lent.specs.Promises.{LookedUpAlike, AnsweredAlike, CheckedAlike, CheckedBuilds, JudgedAlike, ExtendedAlike}
+use Rattle.lent.specs.Promises.{RefusedAlike, LookedUpAlike, AnsweredAlike, CheckedAlike, CheckedBuilds, JudgedAlike, ExtendedAlike}
+
+pub refused-alike : RefusedAlike
+refused-alike A t a few = rw (le-leb (t .len) 64 few)
 
 pub looked-up-alike : LookedUpAlike
-looked-up-alike t reading few = rw (le-leb (t .len) 64 few)
+looked-up-alike t reading few = refused-alike _ t (answered (offsetAt (entriesOf t) reading)) few
 
 pub answered-alike : AnsweredAlike
 answered-alike t reading lent by-value few p q = offset-tells lent by-value (p ∙ looked-up-alike t reading few ∙ sym q)

@@ -3,7 +3,7 @@ use mathlib.Core.Path.{_≡_}
 use mathlib.Core.List.{List}
 use Prim.Native.Nat.{ℕ, _≤_}
 use lib.ListN.{length}
-use Rattle.refusals.specs.Outcome.{answered}
+use Rattle.refusals.specs.Outcome.{Outcome, answered}
 use Rattle.tables.specs.Answers.{takenIn, extensionIn, offsetIn}
 use Rattle.tables.specs.Entries.{Entry, offsetAt, checking}
 use Rattle.tables.specs.Slots.{entriesOf, ofValid, extended, built}
@@ -15,13 +15,17 @@ use Rattle.tables.specs.declared.OffsetAnswer.{OffsetAnswer}
 use Rattle.tables.specs.declared.Taken.{Taken}
 use Rattle.lent.specs.Lists.{ofValidList}
 
--- a table's own entries, lent as a list, are looked up at every reading as the table is; both give 8 where they are not valid
+-- a table's own entries, lent as a list, are refused 8 exactly where the table is: what is answered of the one is answered of the other
+abbrev pub RefusedAlike : Type 1
+RefusedAlike = (A : Type 0) (t : LeapTable) (a : Outcome A) → t .len ≤ 64 → ofValidList (entriesOf t) a ≡ ofValid t a
+
+-- so they are looked up at every reading as the table is
 abbrev pub LookedUpAlike : Type 0
 LookedUpAlike =
     (t : LeapTable) (reading : ℕ) → t .len ≤ 64
     → ofValidList (entriesOf t) (answered (offsetAt (entriesOf t) reading)) ≡ ofValid t (answered (offsetAt (entriesOf t) reading))
 
--- so do two answers that meet the contracts of the two lookups
+-- and two answers that meet the contracts of the two lookups are the same
 abbrev pub AnsweredAlike : Type 0
 AnsweredAlike =
     (t : LeapTable) (reading : ℕ) (lent by-value : OffsetAnswer) → t .len ≤ 64
@@ -37,7 +41,7 @@ CheckedAlike = (es : List Entry) → length es ≤ 64 → checking es ≡ built 
 abbrev pub CheckedBuilds : Type 0
 CheckedBuilds = (es : List Entry) → length es ≤ 64 → checking es ≡ 0 → Builds es (built es .1)
 
--- so do two answers that meet the contracts of the check and of building from two lists
+-- and answers that meet the contracts of the check and of building are the same
 abbrev pub JudgedAlike : Type 0
 JudgedAlike =
     (es : List Entry) (checked : Taken) (x : Extension) → length es ≤ 64

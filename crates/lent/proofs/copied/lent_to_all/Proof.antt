@@ -1,5 +1,5 @@
 -- `copied::lent_to_all`: of a local array the first n entries are lent for a lifetime that is made here, to each call in turn, and are back as they were.
-use mathlib.Core.Path.{_≡_, refl, sym, ap, subst}
+use mathlib.Core.Path.{_≡_, refl, sym, subst}
 use Prim.Native.Nat.{ℕ, _≤_}
 use mathlib.Core.List.{[], _∷_, List}
 use lib.ListN.{length, take}
@@ -17,7 +17,7 @@ use prog.Wp.{Heap, Tables, WpFn}
 use ghost.Atoms.{Atoms}
 use contract.Monad.{Fun}
 use contract.Running.{givenOf, tables, tablesOf}
-use types.Kit.{Given, ‵, raw, some, later, _⊛_, _$_, _∵_, !, qed, by, move, keep, drop, use1, use2, split, pick, rewrite, fjoin, suffices, await, done}
+use types.Kit.{Given, ‵, raw, some, later, _⊛_, _$_, _∵_, !, qed, by, move, keep, use1, use2, split, pick, rewrite, fjoin, suffices, await, done}
 use types.Part.{agg}
 use types.Run.{look, init, forget, stop, from, load, of-opd, addr, assigns, and-then, no-more, land, returns, enter, alloc1, alloc0, params1, pass1, pass0, free1, free0}
 use types.Tokens.{lft-new, lft-end, lent-back}
@@ -34,7 +34,7 @@ use denote.Ref.{RefT}
 use denote.Slice.{sliceTy, sliceVal, Room}
 use denote.Signature.{plain}
 use denote.Signature.Array.{arrayOf}
-use denote.Steps.{only, owned, nothing}
+use denote.Steps.{owned, nothing}
 use borrow.Rule.Array.Share.{room-take}
 use denote.Struct.Laws as LL
 use denote.Enum.Laws as EL
@@ -63,7 +63,7 @@ use Rattle.lent.specs.Copied.{answersIn, answersOf}
 use Rattle.lent.specs.declared.copied.Answers.{Answers}
 use Rattle.lent.proofs.copied.Answers as S
 use Rattle.lent.proofs.copied.Answers.Laws as S′
-use Rattle.lent.proofs.Told.{calls-told}
+use Rattle.lent.proofs.Told.{calls-spelled}
 use Rattle.lent.proofs.InALocal.{Entries, avs, av, array-in, array-out}
 use Rattle.lent.proofs.Prefix.{Rest, Elems, prefix-out, prefix-in}
 use Rattle.lent.proofs.Asked.{List&, asks}
@@ -128,22 +128,22 @@ module _ {M : Type 1} (𝓤 : URA M) (H : Heap 𝓤) (A : Atoms 𝓤) (W : Given
           lft-new ! tt (λ α. move ! (1 ∷ []) $
           use1 W (later (some (λ (γ : GName). ‵ (List& (α ∷ []) (x l₄ γ)) ⊛ ‵ (flent (α ∷ []) (Elems fullShare (length ys) ys l₄ 0))))) (lends-shr-slice 𝓤 H A W E.the-row (named 0) (α ∷ []) fullShare ys l₄ 0 room) $ await ! tt $ pick ! (λ γ. split ! $ move ! (0 ∷ 2 ∷ []) $
           -- [the list; the token; the lender's part; the rest; _12 at 4; _11 at 6; _10 at 8; _9 at 10; _8 at 12; _7 at 14; _6 at 16; _5 at 18; that _4 dies at 20; _3 at 21; …]
-          asks K.the-row Checks 𝓤 H A ! (fmOf 𝓤 H (W .laws) 𝓣) (knows .check) (α ∷ []) fullShare (x l₄ γ) (and-then ! (load ! (from ! (stop !)) (look ! 18 refl)) (no-more !)) (λ v₁ r₁ p₁ g₁.
-          land ! (from ! (stop !)) (init ! 14 refl (EL.lawful K.the-type K′.the-laws 𝓤 H A W tt .typed r₁ _ g₁ .0)) $ rewrite ! 14 (λ (u : Val). ‵ (fat fullShare K′.mir l₇ 0 u)) (ap only (EL.tells K.the-type K′.the-laws r₁ (v₁ ∷ []) g₁)) refl $
-          asks N.the-row Measures 𝓤 H A ! (fmOf 𝓤 H (W .laws) 𝓣) (knows .len) (α ∷ []) fullShare (x l₄ γ) (and-then ! (load ! (from ! (stop !)) (look ! 18 refl)) (no-more !)) (λ v₂ r₂ p₂ g₂.
-          land ! (from ! (stop !)) (init ! 12 refl (EL.lawful N.the-type N′.the-laws 𝓤 H A W tt .typed r₂ _ g₂ .0)) $ rewrite ! 12 (λ (u : Val). ‵ (fat fullShare N′.mir l₈ 0 u)) (ap only (EL.tells N.the-type N′.the-laws r₂ (v₂ ∷ []) g₂)) refl $
-          asks B.the-row Empties 𝓤 H A ! (fmOf 𝓤 H (W .laws) 𝓣) (knows .empty) (α ∷ []) fullShare (x l₄ γ) (and-then ! (load ! (from ! (stop !)) (look ! 18 refl)) (no-more !)) (λ v₃ r₃ p₃ g₃.
-          land ! (from ! (stop !)) (init ! 10 refl (EL.lawful B.the-type B′.the-laws 𝓤 H A W tt .typed r₃ _ g₃ .0)) $ rewrite ! 10 (λ (u : Val). ‵ (fat fullShare B′.mir l₉ 0 u)) (ap only (EL.tells B.the-type B′.the-laws r₃ (v₃ ∷ []) g₃)) refl $
-          asks U.the-row Updates 𝓤 H A ! (fmOf 𝓤 H (W .laws) 𝓣) (knows .update) (α ∷ []) fullShare (x l₄ γ) (and-then ! (load ! (from ! (stop !)) (look ! 18 refl)) (no-more !)) (λ v₄ r₄ p₄ g₄.
-          land ! (from ! (stop !)) (init ! 8 refl (EL.lawful U.the-type U′.the-laws 𝓤 H A W tt .typed r₄ _ g₄ .0)) $ rewrite ! 8 (λ (u : Val). ‵ (fat fullShare U′.mir l₁₀ 0 u)) (ap only (EL.tells U.the-type U′.the-laws r₄ (v₄ ∷ []) g₄)) refl $
-          asks O.the-row Currents 𝓤 H A ! (fmOf 𝓤 H (W .laws) 𝓣) (knows .current) (α ∷ []) fullShare (x l₄ γ) (and-then ! (load ! (from ! (stop !)) (look ! 18 refl)) (no-more !)) (λ v₅ r₅ p₅ g₅.
-          land ! (from ! (stop !)) (init ! 6 refl (EL.lawful O.the-type O′.the-laws 𝓤 H A W tt .typed r₅ _ g₅ .0)) $ rewrite ! 6 (λ (u : Val). ‵ (fat fullShare O′.mir l₁₁ 0 u)) (ap only (EL.tells O.the-type O′.the-laws r₅ (v₅ ∷ []) g₅)) refl $
+          asks K.the-row Checks 𝓤 H A ! (fmOf 𝓤 H (W .laws) 𝓣) (knows .check) (α ∷ []) fullShare (x l₄ γ) (EL.val K.the-type K′.the-laws) (EL.tells K.the-type K′.the-laws) (and-then ! (load ! (from ! (stop !)) (look ! 18 refl)) (no-more !)) (λ r₁ p₁ g₁.
+          land ! (from ! (stop !)) (init ! 14 refl (EL.lawful K.the-type K′.the-laws 𝓤 H A W tt .typed r₁ _ g₁ .0)) $
+          asks N.the-row Measures 𝓤 H A ! (fmOf 𝓤 H (W .laws) 𝓣) (knows .len) (α ∷ []) fullShare (x l₄ γ) (EL.val N.the-type N′.the-laws) (EL.tells N.the-type N′.the-laws) (and-then ! (load ! (from ! (stop !)) (look ! 18 refl)) (no-more !)) (λ r₂ p₂ g₂.
+          land ! (from ! (stop !)) (init ! 12 refl (EL.lawful N.the-type N′.the-laws 𝓤 H A W tt .typed r₂ _ g₂ .0)) $
+          asks B.the-row Empties 𝓤 H A ! (fmOf 𝓤 H (W .laws) 𝓣) (knows .empty) (α ∷ []) fullShare (x l₄ γ) (EL.val B.the-type B′.the-laws) (EL.tells B.the-type B′.the-laws) (and-then ! (load ! (from ! (stop !)) (look ! 18 refl)) (no-more !)) (λ r₃ p₃ g₃.
+          land ! (from ! (stop !)) (init ! 10 refl (EL.lawful B.the-type B′.the-laws 𝓤 H A W tt .typed r₃ _ g₃ .0)) $
+          asks U.the-row Updates 𝓤 H A ! (fmOf 𝓤 H (W .laws) 𝓣) (knows .update) (α ∷ []) fullShare (x l₄ γ) (EL.val U.the-type U′.the-laws) (EL.tells U.the-type U′.the-laws) (and-then ! (load ! (from ! (stop !)) (look ! 18 refl)) (no-more !)) (λ r₄ p₄ g₄.
+          land ! (from ! (stop !)) (init ! 8 refl (EL.lawful U.the-type U′.the-laws 𝓤 H A W tt .typed r₄ _ g₄ .0)) $
+          asks O.the-row Currents 𝓤 H A ! (fmOf 𝓤 H (W .laws) 𝓣) (knows .current) (α ∷ []) fullShare (x l₄ γ) (EL.val O.the-type O′.the-laws) (EL.tells O.the-type O′.the-laws) (and-then ! (load ! (from ! (stop !)) (look ! 18 refl)) (no-more !)) (λ r₅ p₅ g₅.
+          land ! (from ! (stop !)) (init ! 6 refl (EL.lawful O.the-type O′.the-laws 𝓤 H A W tt .typed r₅ _ g₅ .0)) $
           use2 W (raw (LookingUp 𝓤 H A at-mem run .pre (to-at 𝓤 H A at-mem run (α ∷ []) fullShare (x l₄ γ) z))) (hands-at 𝓤 H A at-mem run (α ∷ []) fullShare (x l₄ γ) z W gz) $
           -- [what the lookup asks; the lender's part; the rest; _12 at 3; …; _5 at 17; that _4 dies at 19; _3 at 20; …]
-          calls-told ! (fmOf 𝓤 H (W .laws) 𝓣) at-call.ended (at-call.clauses 𝓤 H A at-mem run) (knows .at) (to-at 𝓤 H A at-mem run (α ∷ []) fullShare (x l₄ γ) z) (λ r ws. Finds ys (z .0) r) (λ r ws. id⊢ 𝓤 _)
-          (and-then ! (load ! (from ! (stop !)) (look ! 17 refl)) (and-then ! (load ! (from ! (stop !)) (look ! 20 refl)) (no-more !))) (λ v₆ r₆ ws p₆ g₆. drop ! $ use1 W (‵ (flft (α ∷ []) fullShare) ⊛ ‵ ftrue) (id⊢ 𝓤 _) $ split ! $
+          calls-spelled ! (fmOf 𝓤 H (W .laws) 𝓣) at-call.ended (at-call.clauses 𝓤 H A at-mem run) (knows .at) (to-at 𝓤 H A at-mem run (α ∷ []) fullShare (x l₄ γ) z) (λ r ws. Finds ys (z .0) r) (λ r ws. id⊢ 𝓤 _) (EL.val O.the-type O′.the-laws) (EL.tells O.the-type O′.the-laws)
+          (and-then ! (load ! (from ! (stop !)) (look ! 17 refl)) (and-then ! (load ! (from ! (stop !)) (look ! 20 refl)) (no-more !))) (λ r₆ ws p₆ g₆. use1 W (‵ (flft (α ∷ []) fullShare) ⊛ ‵ ftrue) (id⊢ 𝓤 _) $ split ! $
           -- [the token; …; the lender's part at 3; the rest; _12 at 5; …]
-          land ! (from ! (stop !)) (init ! 5 refl (EL.lawful O.the-type O′.the-laws 𝓤 H A W tt .typed r₆ _ g₆ .0)) $ rewrite ! 5 (λ (u : Val). ‵ (fat fullShare O′.mir l₁₂ 0 u)) (ap only (EL.tells O.the-type O′.the-laws r₆ (v₆ ∷ []) g₆)) refl $
+          land ! (from ! (stop !)) (init ! 5 refl (EL.lawful O.the-type O′.the-laws 𝓤 H A W tt .typed r₆ _ g₆ .0)) $
           lft-end ! tt $ move ! (0 ∷ 3 ∷ []) $ lent-back ! tt $ move ! (0 ∷ 3 ∷ []) $ use2 W (‵ (Elems fullShare 70 h l₄ 0)) (prefix-in 𝓤 H A W fullShare n h l₄ 0 long) $
           use1 W (‵ (partAt (Entries 70) fullShare h l₄ 0)) (array-whole 𝓤 H A W E.the-row fullShare 70 h l₄ 0) $ array-out ! 70 h l₄ 0 (
           -- [_4 at 0; …; _12 at 3; _11 at 5; _10 at 7; _9 at 9; _8 at 11; _7 at 13; _6 at 15; _5 at 17; that _4 dies at 19; _3 at 20; _2 at 22; _1 at 24; _0 at 26]

@@ -1,5 +1,5 @@
 -- `inner::pass_over`: each turn copies the entry at i out of the lent list and calls `pass_on` on the pass and the copy.
-use mathlib.Core.Path.{_≡_, refl, sym, ap}
+use mathlib.Core.Path.{_≡_, refl, sym}
 use Prim.Native.Nat.{ℕ, _<_}
 use mathlib.Core.List.{List, [], _∷_}
 use mathlib.Core.WellFounded.{InvImage·wf}
@@ -30,7 +30,7 @@ use denote.Ref.{RefT}
 use denote.Slice.{sliceVal, ShrSlice, Room, slice-vals, shr-slice-tells}
 use denote.Index.{place-is}
 use denote.Signature.{plain, shrSliceOf}
-use denote.Steps.{only, owned, nothing}
+use denote.Steps.{owned, nothing}
 use denote.Struct.Laws as LL
 use denote.Triple.Statement.{Contract, Triple}
 use denote.Triple.Entry.{Vals, onEntry}
@@ -47,7 +47,7 @@ use Rattle.lent.proofs.inner.Pass as P
 use Rattle.lent.proofs.inner.Pass.Laws as P′
 use Rattle.lent.proofs.Values.{pv, listᴹ}
 use Rattle.lent.proofs.Passing.{Said}
-use Rattle.lent.proofs.Told.{calls-told}
+use Rattle.lent.proofs.Told.{calls-spelled}
 use Rattle.lent.proofs.LentEntries.{Entries, entry-opens, entry-shuts, tests}
 use Rattle.lent.proofs.inner.begin as begin
 use Rattle.lent.proofs.inner.begin.Symbol as begin-def
@@ -138,12 +138,12 @@ module _ {M : Type 1} (𝓤 : URA M) (H : Heap 𝓤) (A : Atoms 𝓤) (W : Given
             entry-shuts ! tt ys (s .i) b o (below t ys s y) q′ $
             use0 W (raw (On .pre (to-on 𝓤 H A at-mem run (s .pass) (at-i t ys s)))) (hands-on 𝓤 H A at-mem run W (s .pass) (at-i t ys s) (s .is-pass) ge (count-fits t ys s y (gn .0))) $
             -- [what `pass_on` asks; the token; the entries; _8 at 3; …; _3 at 13; …]
-            calls-told ! (fmOf 𝓤 H (W .laws) 𝓣) on.ended (on.clauses 𝓤 H A at-mem run) known-on (to-on 𝓤 H A at-mem run (s .pass) (at-i t ys s)) (λ r ws. seenIn r ≡ after (seenIn (s .pass)) (at-i t ys s)) (λ r ws. id⊢ 𝓤 _)
-            (and-then ! (load ! (from ! (stop !)) (look ! 13 refl)) (and-then ! (load ! (from ! (stop !)) (look ! 3 refl)) (no-more !))) (λ v r ws is g. drop ! $ drop ! $ drop ! $
-            land ! (from ! (stop !)) (store ! 12 refl (LL.lawful P.the-type P′.the-laws 𝓤 H A W .typed r _ g .0)) $ rewrite ! 12 (λ (u : Val). ‵ (fat fullShare P′.mir l₃ 0 u)) (ap only (LL.tells P.the-type P′.the-laws r (v ∷ []) g)) refl $
+            calls-spelled ! (fmOf 𝓤 H (W .laws) 𝓣) on.ended (on.clauses 𝓤 H A at-mem run) known-on (to-on 𝓤 H A at-mem run (s .pass) (at-i t ys s)) (λ r ws. seenIn r ≡ after (seenIn (s .pass)) (at-i t ys s)) (λ r ws. id⊢ 𝓤 _) pv (LL.tells P.the-type P′.the-laws)
+            (and-then ! (load ! (from ! (stop !)) (look ! 13 refl)) (and-then ! (load ! (from ! (stop !)) (look ! 3 refl)) (no-more !))) (λ r ws is g. drop ! $ drop ! $
+            land ! (from ! (stop !)) (store ! 12 refl (LL.lawful P.the-type P′.the-laws 𝓤 H A W .typed r _ g .0)) $
             assigns-last ! (bin ! (load ! (from ! (stop !)) (look ! 10 refl)) (lit ! tt) (record { fits = next-fits t ys s y (gn .0) })) (from ! (stop !)) (store ! 10 refl (tt, record { fits = next-fits t ys s y (gn .0) })) $
             forget ! 2 refl $ forget ! 4 refl $ forget ! 6 refl $ forget ! 8 refl $
-            again ! ≺ I s (next t ys s y ge r (LL.owes P.the-type P′.the-laws r (LL.owed P.the-type P′.the-laws r _ g)) is) (less t ys s y))))
+            again ! ≺ I s (next t ys s y ge r g is) (less t ys s y))))
             -- ---- it is not: the pass is returned
             (λ y. exec ! (𝓣 .C) (𝓣 .Λ) En mir.t-4 (atRet En Post) $
             assigns ! (of-opd ! (load ! (from ! (stop !)) (look ! 12 refl))) (from ! (stop !)) (init ! 18 refl (LL.lawful P.the-type P′.the-laws 𝓤 H A W .typed (s .pass) _ (s .is-pass) .0)) $
@@ -161,13 +161,13 @@ module _ {M : Type 1} (𝓤 : URA M) (H : Heap 𝓤) (A : Atoms 𝓤) (W : Given
           pass1 ! (init ! 14 refl (tt, (tt, (record { fits = gn .0 }, tt)))) $ pass1 ! (init ! 12 refl (tt, record { fits = gt .1 })) $ pass0 ! $
           use0 W (raw (Begin .pre (to-begin 𝓤 H A at-mem run t))) (hands-begin 𝓤 H A at-mem run W t gt) $
           -- [what `begin` asks; _8 at 1; …; _3 at 11; _2 at 13; …]
-          calls-told ! (fmOf 𝓤 H (W .laws) 𝓣) begin.ended (begin.clauses 𝓤 H A at-mem run) known-begin (to-begin 𝓤 H A at-mem run t) (λ r ws. seenIn r ≡ begun t) (λ r ws. id⊢ 𝓤 _)
-          (and-then ! (load ! (from ! (stop !)) (look ! 13 refl)) (no-more !)) (λ v r ws is g. drop ! $ drop ! $ drop ! $
-          land ! (from ! (stop !)) (init ! 10 refl (LL.lawful P.the-type P′.the-laws 𝓤 H A W .typed r _ g .0)) $ rewrite ! 10 (λ (u : Val). ‵ (fat fullShare P′.mir l₃ 0 u)) (ap only (LL.tells P.the-type P′.the-laws r (v ∷ []) g)) refl $
+          calls-spelled ! (fmOf 𝓤 H (W .laws) 𝓣) begin.ended (begin.clauses 𝓤 H A at-mem run) known-begin (to-begin 𝓤 H A at-mem run t) (λ r ws. seenIn r ≡ begun t) (λ r ws. id⊢ 𝓤 _) pv (LL.tells P.the-type P′.the-laws)
+          (and-then ! (load ! (from ! (stop !)) (look ! 13 refl)) (no-more !)) (λ r ws is g. drop ! $ drop ! $
+          land ! (from ! (stop !)) (init ! 10 refl (LL.lawful P.the-type P′.the-laws 𝓤 H A W .typed r _ g .0)) $
           assigns ! (of-opd ! (lit ! tt)) (from ! (stop !)) (init ! 8 refl (tt, record { fits = lit< tt })) $
           -- of what the lent list owns the borrow of the entries is kept
           move ! (19 ∷ []) $ fsplit ! $ move ! (1 ∷ []) $ drop ! $ fsplit ! $ drop ! $ fsplit ! $ drop ! $ move ! (19 ∷ []) $ split ! $ move ! (0 ∷ 2 ∷ []) $ move ! (2 ∷ []) $ drop ! $
-          looping l₀ l₁ l₂ l₃ l₄ l₅ l₆ l₇ l₈ (starts t ys r (LL.owes P.the-type P′.the-laws r (LL.owed P.the-type P′.the-laws r _ g)) is)))))))))))
+          looping l₀ l₁ l₂ l₃ l₄ l₅ l₆ l₇ l₈ (starts t ys r g is)))))))))))
 
   module _ (𝓣 : Tables 𝓤 H) (known-begin : Triple 𝓤 (𝓣 .C #begin) Begin) (known-on : Triple 𝓤 (𝓣 .C #on) On) where
     walks : Walks 𝓤 H A this.ended stayed (WpFn 𝓤 H (𝓣 .C) (𝓣 .Λ) code.function) (this.clauses 𝓤 H A at-mem run)

@@ -60,21 +60,6 @@ module _ (k : Taken) (n : LengthAnswer) (b : EmptyAnswer) (u : UpdateAnswer) (c 
   pub together : (ys : List Entry) (t : ℕ) → Checks ys k → Measures ys n → Empties ys b → Updates ys u → Currents ys c → Finds ys t f → answersIn all ≡ answersOf ys t
   together ys t p₁ p₂ p₃ p₄ p₅ p₆ = rw (p₁, p₂, p₃, p₄, p₅, p₆)
 
-  pub is-all : {v₁ v₂ v₃ v₄ v₅ v₆ : Val} → Is K.the-row k (v₁ ∷ []) → Is N.the-row n (v₂ ∷ []) → Is B.the-row b (v₃ ∷ []) → Is U.the-row u (v₄ ∷ []) → Is O.the-row c (v₅ ∷ []) → Is O.the-row f (v₆ ∷ []) → Is S.the-row all (sv all ∷ [])
-  is-all g₁ g₂ g₃ g₄ g₅ g₆ =
-      LL.owes S.the-type S′.the-laws all (
-        EL.owes K.the-type K′.the-laws k (EL.owed K.the-type K′.the-laws k _ g₁),
-        (
-          EL.owes N.the-type N′.the-laws n (EL.owed N.the-type N′.the-laws n _ g₂),
-          (
-            EL.owes B.the-type B′.the-laws b (EL.owed B.the-type B′.the-laws b _ g₃),
-            (
-              EL.owes U.the-type U′.the-laws u (EL.owed U.the-type U′.the-laws u _ g₄),
-              (
-                EL.owes O.the-type O′.the-laws c (EL.owed O.the-type O′.the-laws c _ g₅),
-                (EL.owes O.the-type O′.the-laws f (EL.owed O.the-type O′.the-laws f _ g₆), tt),
-              ),
-            ),
-          ),
-        ),
-      )
+  pub is-all : Is K.the-row k (EL.val K.the-type K′.the-laws k ∷ []) → Is N.the-row n (EL.val N.the-type N′.the-laws n ∷ []) → Is B.the-row b (EL.val B.the-type B′.the-laws b ∷ []) → Is U.the-row u (EL.val U.the-type U′.the-laws u ∷ [])
+      → Is O.the-row c (EL.val O.the-type O′.the-laws c ∷ []) → Is O.the-row f (EL.val O.the-type O′.the-laws f ∷ []) → Is S.the-row all (sv all ∷ [])
+  is-all g₁ g₂ g₃ g₄ g₅ g₆ = LL.owes S.the-type S′.the-laws all (g₁, (g₂, (g₃, (g₄, (g₅, (g₆, tt))))))
