@@ -6,7 +6,7 @@ pub mod blocks;
 ghost use mathlib.Core.Path.{_≡_};
 ghost use Prim.Native.Nat.{_*_, _≤_};
 ghost use lib.ListN.{length, take};
-ghost use Rattle.lines.specs.Runs.{Finished, Turned, Ran};
+ghost use Rattle.lines.specs.Runs.{Finished, Turned, TakesAll, Ran};
 use crate::Way;
 use crate::inner::blocks::feed;
 use crate::inner::blocks::finish;
@@ -65,6 +65,7 @@ fn pass(way: Way, line: &mut [u8], used: usize, block: &[u8], out: &mut [u8]) ->
     requires { ⌜ used ≤ 128 ⌝ }
     requires { ⌜ 31 * length (now block) ≤ length (now out) ⌝ }
     ensures { λ r. ⌜ Turned way (take used (now (line .entry))) (now (block .entry)) (now (line .exit)) (now (out .exit)) r ⌝ }
+    ensures { λ r. ⌜ TakesAll (now (block .entry)) r ⌝ }
 {
     let fed = feed(way, line, used, block, out);
     let made = fed.made;
