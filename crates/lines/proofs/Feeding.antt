@@ -16,11 +16,11 @@ module _ (f : List ℕ → List ℕ) (c block out₀ line out : List ℕ) (used 
   abbrev said : List ℕ
   said = written f c (take at block)
 
-  -- no byte is answered by more than 31
-  pub few : ((l : List ℕ) → length (f l) ≤ 31) → at ≤ length block → made ≤ 31 * at
-  few short inside =
+  -- what the bytes so far are answered by
+  pub few : ((l : List ℕ) → length (f l) ≤ 31) → length (f []) ≤ 16 → at ≤ length block → made ≤ 16 * at + 15
+  few short low inside =
       let long = length-take-le at block inside in
-      omega (arith, before .writes .0, written-short f short (take at block) c)
+      omega (arith, before .writes .0, written-short f short low (take at block) c)
 
   -- k bytes stand before the line's end, and n of them are stored, as many as there is room for
   module _ (k n : ℕ) (line′ : List ℕ) (seen : k ≡ untilEnd rest) (many : n ≡ min k (128 - used)) (long : length line ≡ 128) (kept : line′ ≡ sets line used (take n rest)) where

@@ -10,7 +10,7 @@ use Rattle.lines.specs.Answers.{answerTo}
 use Rattle.lines.specs.Pieces.{carriedOn, written}
 use Rattle.lines.specs.Runs.{Passed}
 use Rattle.lines.specs.declared.inner.Taken.{Taken}
-use Rattle.lines.proofs.Outcomes.{answer-short}
+use Rattle.lines.proofs.Outcomes.{answer-short, empty-short}
 use Rattle.lines.proofs.Cutting.{written-short, handed}
 use borrow.Author.Needs.{needs}
 use Rattle.lines.proofs.inner.pass.Statement.{statement}
@@ -31,7 +31,7 @@ module _ (c : tie.After-feed) where
   block = now (start .args .block)
 
   room : length (written answers begun block) ≤ length (now (start .args .out))
-  room = omega (arith, written-short answers (answer-short (start .args .way)) block begun)
+  room = omega (arith, written-short answers (answer-short (start .args .way)) (empty-short (start .args .way)) block begun)
 
   abbrev taken : Taken
   taken = record { read = length block; used = c .feed .result .used; made = c .feed .result .made }

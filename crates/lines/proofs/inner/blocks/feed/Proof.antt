@@ -9,7 +9,7 @@ use lib.ListN.{length, take, drop, length-drop}
 use lib.Seq.{take-all}
 use Rattle.lines.specs.Answers.{answerTo}
 use Rattle.lines.specs.Pieces.{untilEnd, Feeds}
-use Rattle.lines.proofs.Outcomes.{answer-short}
+use Rattle.lines.proofs.Outcomes.{answer-short, empty-short}
 use Rattle.lines.proofs.Ends.{until-most}
 use Rattle.lines.proofs.Feeding.{few, to-end, past-end}
 use Rattle.lines.proofs.inner.blocks.feed.Statement.{statement}
@@ -114,7 +114,7 @@ answer-requires : tie.Need-answer-requires Inv-loop μ-loop
 answer-requires c κs =
     let p = c .before .before .before .before .before in
     let m = state p .loop in
-    let low = few (answers p) (begun p) (block (found p)) (output p) (m .line) (m .out) (m .u) (m .made) (m .at) (m .inv .0) (answer-short (state p .before .before .before .before .args .way)) (m .inv .1) in
+    let low = few (answers p) (begun p) (block (found p)) (output p) (m .line) (m .out) (m .u) (m .made) (m .at) (m .inv .0) (answer-short (state p .before .before .before .before .args .way)) (empty-short (state p .before .before .before .before .args .way)) (m .inv .1) in
     (omega (arith, many p, p .put-bytes .kept .0), omega (arith, low, m .inv .3))
 
 add-at : tie.Need-add-at Inv-loop μ-loop
