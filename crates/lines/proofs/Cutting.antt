@@ -112,14 +112,31 @@ module _ (f : List ℕ → List ℕ) (c block : List ℕ) (at : ℕ) where
             ∙ rw (up-to-end .1, append-nil (f (carriedOn c (take e block))), line),
       )
 
--- ---- no byte is answered by more than 31
-pub written-short : (f : List ℕ → List ℕ) → ((l : List ℕ) → length (f l) ≤ 31) → (p c : List ℕ) → length (written f c p) ≤ 31 * length p
-written-short f short [] c = omega arith
-written-short f short (b ∷ p) c = by-byte (eqb b 10) (written-short f short p (grown c b))
-  where
-    by-byte : (t : Bool) → length (written f (grown c b) p) ≤ 31 * length p → length (cond t (f c) [] ++ written f (grown c b) p) ≤ 31 * suc (length p)
-    by-byte true h = omega (arith, h, short c, length-append (f c) (written f (grown c b) p))
-    by-byte false h = omega (arith, h)
+-- ---- a byte is answered by 16 at most, but for the line that has begun: its end, behind it, may be answered by 31
+abbrev owed : List ℕ → ℕ
+owed [] = 0
+owed (b ∷ c) = 15
+
+owed-most : (c : List ℕ) → owed c ≤ 15
+owed-most [] = omega arith
+owed-most (b ∷ c) = omega arith
+
+module _ (f : List ℕ → List ℕ) (short : (l : List ℕ) → length (f l) ≤ 31) (low : length (f []) ≤ 16) where
+  one-answer : (c : List ℕ) → length (f c) ≤ 16 + owed c
+  one-answer [] = low
+  one-answer (b ∷ c) = short (b ∷ c)
+
+  within-owed : (p c : List ℕ) → length (written f c p) ≤ 16 * length p + owed c
+  within-owed [] c = omega arith
+  within-owed (b ∷ p) c = by-byte (eqb b 10) (within-owed p (grown c b))
+    where
+      by-byte : (t : Bool) → length (written f (cond t [] (cond (ltb (length c) 128) (c ++ (b ∷ [])) c)) p) ≤ 16 * length p + owed (cond t [] (cond (ltb (length c) 128) (c ++ (b ∷ [])) c))
+          → length (cond t (f c) [] ++ written f (cond t [] (cond (ltb (length c) 128) (c ++ (b ∷ [])) c)) p) ≤ 16 * suc (length p) + owed c
+      by-byte true h = omega (arith, h, one-answer c, length-append (f c) (written f [] p))
+      by-byte false h = omega (arith, h, owed-most (cond (ltb (length c) 128) (c ++ (b ∷ [])) c))
+
+  pub written-short : (p c : List ℕ) → length (written f c p) ≤ 16 * length p + 15
+  written-short p c = omega (arith, within-owed p c, owed-most c)
 
 pub end-short : (f : List ℕ → List ℕ) → ((l : List ℕ) → length (f l) ≤ 31) → (l : List ℕ) → length (atEnd f l) ≤ 31
 end-short f short [] = omega arith

@@ -2,6 +2,7 @@ pub mod Years
 pub mod Outcomes
 pub mod Ends
 pub mod Cutting
+pub mod Feeding
 pub mod Turns
 pub mod WholeInput
 pub mod WholeRun

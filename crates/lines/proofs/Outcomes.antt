@@ -5,13 +5,13 @@ use mathlib.Core.List.{List, [], _∷_}
 use Prim.Native.Nat.{ℕ, _≤_, _<_}
 use native.Mathlib.Omega.{arith}
 use borrow.Author.Tests.{le-leb, lt-leb}
-use lib.Dec.{leb}
+use lib.Dec.{leb, lit≤}
 use lib.ListN.{length, length-append}
 use Rattle.refusals.specs.Outcome.{Outcome, answered, refused}
 use Rattle.conversions.specs.Conversions.{then, gpsToUtc, utcToGps}
 use Rattle.civil.specs.Fields.{countAt}
 use Rattle.builtin.specs.Builtin.{builtin}
-use Rattle.digits.specs.Decimal.{countRead, decimal}
+use Rattle.digits.specs.Decimal.{countRead, placesUpTo, decimal}
 use Rattle.digits.proofs.WayBack.{decimal-length}
 use Rattle.stamps.specs.declared.Stamp.{Stamp}
 use Rattle.stamps.specs.Form.{Fits, fieldsAt, first, last, within, stampRead}
@@ -123,6 +123,12 @@ answer-short way l = by-length (leb (length l) 127)
     by-length : (t : Bool) → Short (cond t (outcomeOf way l) (refused 10))
     by-length true = outcome-short way l
     by-length false = refused-short 10
+
+-- a line of no bytes is refused, in 11 bytes
+pub empty-short : (way : Way) → length (answerTo way []) ≤ 16
+unfolding answerTo civilOfLine gpsOfLine stampRead placesUpTo
+empty-short ToCivil = lit≤ tt
+empty-short ToGps = lit≤ tt
 
 -- ---- the fields of a line in the form fit
 pub read-fits : (l : List ℕ) (s : Stamp) → answered s ≡ stampRead l → Fits s

@@ -35,6 +35,14 @@ Turned way c block line′ out′ (Ended made) = Finished way c out′ (Ended ma
 Turned way c block line′ out′ (CannotEnd made) = Finished way c out′ (CannotEnd made)
 Turned way c block line′ out′ CannotRead = Unit {0}
 
+-- all bytes of a block are taken
+abbrev pub TakesAll : List ℕ → Step → Type 0
+TakesAll block (More t) = t .read ≡ length block
+TakesAll block (CannotWrite t) = t .read ≡ length block
+TakesAll block (Ended made) = Unit {0}
+TakesAll block (CannotEnd made) = Unit {0}
+TakesAll block CannotRead = Unit {0}
+
 -- the turns of a run so far: the buffer and its used length, all that was read, and all that was written. It begins with an
 -- empty buffer; each turn takes the buffer as the one before has left it, with any block and any output
 pub data Runs (way : Way) : List ℕ → ℕ → List ℕ → List ℕ → Type 0 where

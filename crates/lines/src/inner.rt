@@ -4,9 +4,9 @@ pub mod answer;
 pub mod blocks;
 
 ghost use mathlib.Core.Path.{_≡_};
-ghost use Prim.Native.Nat.{_*_, _≤_};
+ghost use Prim.Native.Nat.{_+_, _*_, _≤_};
 ghost use lib.ListN.{length, take};
-ghost use Rattle.lines.specs.Runs.{Finished, Turned, Ran};
+ghost use Rattle.lines.specs.Runs.{Finished, Turned, TakesAll, Ran};
 use crate::Way;
 use crate::inner::blocks::feed;
 use crate::inner::blocks::finish;
@@ -15,17 +15,17 @@ use libc::STDIN_FILENO;
 use libc::STDOUT_FILENO;
 
 // Zeros for a block.
-pub fn block_buffer() -> [u8; 32768]
-    ensures { λ r. ⌜ 32768 ≡ length r ⌝ }
+pub fn block_buffer() -> [u8; 65536]
+    ensures { λ r. ⌜ 65536 ≡ length r ⌝ }
 {
-    [0; 32768]
+    [0; 65536]
 }
 
-// Zeros for the answers: room for the longest, 31 bytes, to each byte of a block.
-pub fn answer_buffer() -> [u8; 1015808]
-    ensures { λ r. ⌜ 1015808 ≡ length r ⌝ }
+// Zeros for the answers to a block: 16 bytes to each of its bytes, and 31.
+pub fn answer_buffer() -> [u8; 1048607]
+    ensures { λ r. ⌜ 1048607 ≡ length r ⌝ }
 {
-    [0; 1015808]
+    [0; 1048607]
 }
 
 // What a turn has done: bytes of the block that were read, the used length of the line buffer, bytes of answers that were
@@ -63,8 +63,9 @@ fn last(way: Way, line: &[u8], used: usize, out: &mut [u8]) -> Step
 fn pass(way: Way, line: &mut [u8], used: usize, block: &[u8], out: &mut [u8]) -> Step
     requires { ⌜ length (now line) ≡ 128 ⌝ }
     requires { ⌜ used ≤ 128 ⌝ }
-    requires { ⌜ 31 * length (now block) ≤ length (now out) ⌝ }
+    requires { ⌜ 16 * length (now block) + 31 ≤ length (now out) ⌝ }
     ensures { λ r. ⌜ Turned way (take used (now (line .entry))) (now (block .entry)) (now (line .exit)) (now (out .exit)) r ⌝ }
+    ensures { λ r. ⌜ TakesAll (now (block .entry)) r ⌝ }
 {
     let fed = feed(way, line, used, block, out);
     let made = fed.made;
@@ -84,8 +85,7 @@ fn pass(way: Way, line: &mut [u8], used: usize, block: &[u8], out: &mut [u8]) ->
 fn turn(way: Way, line: &mut [u8], used: usize, block: &mut [u8], out: &mut [u8]) -> Step
     requires { ⌜ length (now line) ≡ 128 ⌝ }
     requires { ⌜ used ≤ 128 ⌝ }
-    requires { ⌜ 31 * length (now block) ≤ length (now out) ⌝ }
-    requires { ⌜ 31 ≤ length (now out) ⌝ }
+    requires { ⌜ 16 * length (now block) + 31 ≤ length (now out) ⌝ }
     ensures { λ r. ⌜ Turned way (take used (now (line .entry))) (now (block .exit)) (now (line .exit)) (now (out .exit)) r ⌝ }
 {
     let got = libc::read(STDIN_FILENO, block);
@@ -123,8 +123,7 @@ fn explain(way: Way, step: Step) {
 // turns down, from a number that no run uses up.
 fn turns(way: Way, line: &mut [u8], block: &mut [u8], out: &mut [u8]) -> Step
     requires { ⌜ length (now line) ≡ 128 ⌝ }
-    requires { ⌜ 31 * length (now block) ≤ length (now out) ⌝ }
-    requires { ⌜ 31 ≤ length (now out) ⌝ }
+    requires { ⌜ 16 * length (now block) + 31 ≤ length (now out) ⌝ }
     ensures { λ r. ⌜ Ran way (now (line .exit)) (now (block .exit)) (now (out .exit)) r ⌝ }
 {
     let mut used: usize = 0;
@@ -143,8 +142,7 @@ fn turns(way: Way, line: &mut [u8], block: &mut [u8], out: &mut [u8]) -> Step
 // A program's work: its turns, and where they end otherwise than at the end of the input, why.
 pub fn run(way: Way, line: &mut [u8], block: &mut [u8], out: &mut [u8])
     requires { ⌜ length (now line) ≡ 128 ⌝ }
-    requires { ⌜ 31 * length (now block) ≤ length (now out) ⌝ }
-    requires { ⌜ 31 ≤ length (now out) ⌝ }
+    requires { ⌜ 16 * length (now block) + 31 ≤ length (now out) ⌝ }
 {
     explain(way, turns(way, line, block, out));
 }

@@ -1,6 +1,6 @@
 // Bytes of blocks cut into lines through a line buffer of 128 bytes, whose used length stands beside it.
 ghost use mathlib.Core.Path.{_≡_};
-ghost use Prim.Native.Nat.{_*_, _≤_, min};
+ghost use Prim.Native.Nat.{_+_, _*_, _≤_, min};
 ghost use lib.ListN.{length, take};
 ghost use Rattle.lines.specs.Answers.{Puts, answerTo};
 ghost use Rattle.lines.specs.Pieces.{noEnd, untilEnd, Skips, Feeds, atEnd};
@@ -71,11 +71,12 @@ fn least(a: usize, b: usize) -> usize
     if a < b { a } else { b }
 }
 
-// Takes the bytes of a block. There is room for the longest answer to each of them, if each ends a line.
+// Takes the bytes of a block. There is room for 16 bytes of answers to each: a line of no bytes is answered by 11, and any other has two bytes with
+// its end, or began before the block; and for the longest answer besides.
 pub fn feed(way: Way, line: &mut [u8], used: usize, block: &[u8], out: &mut [u8]) -> Fed
     requires { ⌜ length (now line) ≡ 128 ⌝ }
     requires { ⌜ used ≤ 128 ⌝ }
-    requires { ⌜ 31 * length (now block) ≤ length (now out) ⌝ }
+    requires { ⌜ 16 * length (now block) + 31 ≤ length (now out) ⌝ }
     ensures { λ r. ⌜ Feeds (answerTo way) (take used (now (line .entry))) (now (block .entry)) (now (out .entry)) (now (line .exit)) (r .used) (now (out .exit)) (r .made) ⌝ }
 {
     let mut u = used;

@@ -6,7 +6,7 @@ use Rattle.lines.proofs.inner.answer_buffer.Statement.{statement}
 use Rattle.lines.proofs.inner.answer_buffer.Tie as tie
 
 returns : tie.Need-returns
-returns c = sym (length-replicate {A = ℕ} 1015808 0)
+returns c = sym (length-replicate {A = ℕ} 1048607 0)
 
 pub answer-buffer-spec : {M : Type 1} → statement M
 answer-buffer-spec = tie.close (tie.spec returns)

@@ -6,7 +6,7 @@ use Rattle.lines.proofs.inner.block_buffer.Statement.{statement}
 use Rattle.lines.proofs.inner.block_buffer.Tie as tie
 
 returns : tie.Need-returns
-returns c = sym (length-replicate {A = ℕ} 32768 0)
+returns c = sym (length-replicate {A = ℕ} 65536 0)
 
 pub block-buffer-spec : {M : Type 1} → statement M
 block-buffer-spec = tie.close (tie.spec returns)

@@ -1,5 +1,5 @@
 -- `pass` meets its contract: the write is handed what `feed` has made of the block.
-use mathlib.Core.Path.{sym, ap, _∙_}
+use mathlib.Core.Path.{refl, sym, ap, _∙_}
 use mathlib.Core.List.{List}
 use Prim.Native.Nat.{ℕ, _≤_}
 use native.Mathlib.Omega.{arith}
@@ -10,7 +10,7 @@ use Rattle.lines.specs.Answers.{answerTo}
 use Rattle.lines.specs.Pieces.{carriedOn, written}
 use Rattle.lines.specs.Runs.{Passed}
 use Rattle.lines.specs.declared.inner.Taken.{Taken}
-use Rattle.lines.proofs.Outcomes.{answer-short}
+use Rattle.lines.proofs.Outcomes.{answer-short, empty-short}
 use Rattle.lines.proofs.Cutting.{written-short, handed}
 use borrow.Author.Needs.{needs}
 use Rattle.lines.proofs.inner.pass.Statement.{statement}
@@ -31,7 +31,7 @@ module _ (c : tie.After-feed) where
   block = now (start .args .block)
 
   room : length (written answers begun block) ≤ length (now (start .args .out))
-  room = omega (arith, written-short answers (answer-short (start .args .way)) block begun)
+  room = omega (arith, written-short answers (answer-short (start .args .way)) (empty-short (start .args .way)) block begun)
 
   abbrev taken : Taken
   taken = record { read = length block; used = c .feed .result .used; made = c .feed .result .made }
@@ -67,7 +67,7 @@ same-length-2 : tie.Need-same-length-2
 same-length-2 c = search needs
 
 returns : tie.Need-returns
-returns c = passed (c .before .before .before .before .before .before .before .before)
+returns c = (passed (c .before .before .before .before .before .before .before .before), refl)
 
 same-length-3 : tie.Need-same-length-3
 same-length-3 c = search needs
@@ -76,7 +76,7 @@ same-length-4 : tie.Need-same-length-4
 same-length-4 c = search needs
 
 returns-2 : tie.Need-returns-2
-returns-2 c = passed (c .before .before .before .before .before .before .before .before)
+returns-2 c = (passed (c .before .before .before .before .before .before .before .before), refl)
 
 pub pass-spec : {M : Type 1} → statement M
 pass-spec =

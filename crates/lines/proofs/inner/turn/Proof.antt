@@ -62,7 +62,7 @@ returns-3 : tie.Need-returns-3
 returns-3 c =
     let p = c .before .before .before .before in
     let a = c .before .before .before .before .before .before .before .before .before .before .before .before .before .before .before .before .before .before .before .before .args in
-    in-whole-block (a .way) (take (a .used) (now (a .line))) (c .before .before .before .before .before .before .before .before .before .before .before .before .before .before .before .read .last .1 .0) (p .pass .last .1 .0) (p .pass .last .1 .1 .1 .1 .0) (p .before .before .before .before .before .count .result - 0) (p .pass .result) (p .pass .ensures)
+    in-whole-block (a .way) (take (a .used) (now (a .line))) (c .before .before .before .before .before .before .before .before .before .before .before .before .before .before .before .read .last .1 .0) (p .pass .last .1 .0) (p .pass .last .1 .1 .1 .1 .0) (p .before .before .before .before .before .count .result - 0) (p .pass .result) (p .pass .ensures .0)
 
 pub turn-spec : {M : Type 1} → statement M
 turn-spec =

@@ -1,18 +1,17 @@
 -- `feed` meets its contract. The invariant: the bytes before `at` are taken as the contract says of all.
-use mathlib.Core.Path.{_≡_, refl, sym, ap, _∙_}
-use mathlib.Core.List.{List, [], _∷_, _++_}
-use Prim.Native.Nat.{ℕ, min, _+_, _-_, _*_, _≤_, _<_}
+use mathlib.Core.Path.{_≡_, refl, ap, _∙_}
+use mathlib.Core.List.{List}
+use Prim.Native.Nat.{ℕ, min, _+_, _-_, _≤_}
 use native.Mathlib.Omega.{arith}
 use borrow.Author.Needs.{needs}
 use denote.Ref.{now}
-use lib.ListN.{length, take, drop, length-drop, length-append}
-use lib.Seq.{sets, take-all, length-sets, length-take-le}
-use Rattle.digits.proofs.Stores.{joined}
+use lib.ListN.{length, take, drop, length-drop}
+use lib.Seq.{take-all}
 use Rattle.lines.specs.Answers.{answerTo}
-use Rattle.lines.specs.Pieces.{carriedOn, written, untilEnd, Feeds}
-use Rattle.lines.proofs.Outcomes.{answer-short}
+use Rattle.lines.specs.Pieces.{untilEnd, Feeds}
+use Rattle.lines.proofs.Outcomes.{answer-short, empty-short}
 use Rattle.lines.proofs.Ends.{until-most}
-use Rattle.lines.proofs.Cutting.{stored, up-to-end, behind-end, written-short}
+use Rattle.lines.proofs.Feeding.{few, to-end, past-end}
 use Rattle.lines.proofs.inner.blocks.feed.Statement.{statement}
 use Rattle.lines.proofs.inner.blocks.feed.Tie as tie
 
@@ -40,7 +39,7 @@ module _ (c : tie.After-before-end Inv-loop μ-loop) where
   inside : turn .loop .at + c .before-end .result ≤ length block
   inside = omega (arith, seen, until-most rest, length-drop (turn .loop .at) block)
 
--- the bytes before it are stored
+-- the bytes before it are stored: the state that they were stored in, and how many
 module _ (c : tie.After-put-bytes Inv-loop μ-loop) where
   abbrev found : tie.After-before-end Inv-loop μ-loop
   found = c .before .before .before .before
@@ -48,51 +47,23 @@ module _ (c : tie.After-put-bytes Inv-loop μ-loop) where
   abbrev state : tie.At-loop Inv-loop μ-loop
   state = turn found
 
+  abbrev answers : List ℕ → List ℕ
+  answers = answerTo (state .before .before .before .before .args .way)
+
   abbrev begun : List ℕ
   begun = take (state .before .before .before .before .args .used) (now (state .before .before .before .before .args .line))
+
+  abbrev output : List ℕ
+  output = now (state .before .before .before .before .args .out)
 
   abbrev kept : ℕ
   kept = state .loop .at + c .before .before .before .least .result - state .loop .at
 
-  many : kept ≡ min (untilEnd (rest found)) (128 - state .loop .u)
-  many = omega (arith, c .before .before .before .least .ensures, seen found)
+  many : kept ≡ min (found .before-end .result) (128 - state .loop .u)
+  many = omega (arith, c .before .before .before .least .ensures)
 
-  carried : take (state .loop .u + kept) (c .put-bytes .last .0) ≡ carriedOn (carriedOn begun (take (state .loop .at) (block found))) (take (untilEnd (rest found)) (rest found))
-  carried =
-      ap (take (state .loop .u + kept)) (c .put-bytes .ensures)
-      ∙ rw many
-      (stored (state .loop .line) (state .loop .u) (rest found) (omega arith) (state .loop .inv .0 .held)
-      ∙ ap (λ (l : List ℕ). carriedOn l (take (untilEnd (rest found)) (rest found))) (state .loop .inv .0 .carries))
-
-  abbrev answers : List ℕ → List ℕ
-  answers = answerTo (state .before .before .before .before .args .way)
-
-  abbrev said : List ℕ
-  said = written answers begun (take (state .loop .at) (block found))
-
-  few : state .loop .made ≤ 31 * state .loop .at
-  few =
-      let long = length-take-le (state .loop .at) (block found) (state .loop .inv .1) in
-      omega (arith, state .loop .inv .0 .writes .0, written-short answers (answer-short (state .before .before .before .before .args .way)) (take (state .loop .at) (block found)) begun)
-
-  -- behind the bytes, and behind the end too
-  abbrev ahead : ℕ
-  ahead = state .loop .at + found .before-end .result
-
-  no-end : (carriedOn begun (take ahead (block found)) ≡ take (state .loop .u + kept) (c .put-bytes .last .0)) × (written answers begun (take ahead (block found)) ≡ said)
-  no-end =
-      let up = up-to-end answers begun (block found) (state .loop .at) in (
-        ap (λ (k : ℕ). carriedOn begun (take (state .loop .at + k) (block found))) (seen found) ∙ up .0 ∙ sym carried,
-        ap (λ (k : ℕ). written answers begun (take (state .loop .at + k) (block found))) (seen found) ∙ up .1,
-      )
-
-  an-end : ahead < length (block found)
-      → (carriedOn begun (take (ahead + 1) (block found)) ≡ []) × (written answers begun (take (ahead + 1) (block found)) ≡ said ++ answers (take (state .loop .u + kept) (c .put-bytes .last .0)))
-  an-end h =
-      let behind = behind-end answers begun (block found) (state .loop .at) (omega (arith, seen found)) in (
-        ap (λ (k : ℕ). carriedOn begun (take (state .loop .at + k + 1) (block found))) (seen found) ∙ behind .0,
-        ap (λ (k : ℕ). written answers begun (take (state .loop .at + k + 1) (block found))) (seen found) ∙ behind .1 ∙ ap (λ (l : List ℕ). said ++ answers l) (sym carried),
-      )
+  long : length (state .loop .line) ≡ 128
+  long = state .loop .inv .2 ∙ state .before .before .before .before .pre .0
 
 loop-holds : tie.Need-loop-holds Inv-loop μ-loop
 loop-holds c = (record { held = omega arith; carries = refl; writes = (refl, refl) }, omega arith, refl, refl)
@@ -143,7 +114,8 @@ answer-requires : tie.Need-answer-requires Inv-loop μ-loop
 answer-requires c κs =
     let p = c .before .before .before .before .before in
     let m = state p .loop in
-    (omega (arith, many p, p .put-bytes .kept .0), omega (arith, few p, m .inv .3))
+    let low = few (answers p) (begun p) (block (found p)) (output p) (m .line) (m .out) (m .u) (m .made) (m .at) (m .inv .0) (answer-short (state p .before .before .before .before .args .way)) (empty-short (state p .before .before .before .before .args .way)) (m .inv .1) in
+    (omega (arith, many p, p .put-bytes .kept .0), omega (arith, low, m .inv .3))
 
 add-at : tie.Need-add-at Inv-loop μ-loop
 add-at c = search needs
@@ -156,15 +128,8 @@ loop-again c =
     let answer = c .before .before .answer in
     let end = c .before .before .before .before .before in
     let p = end .before .before .before in
-    let m = state p .loop in
-    let a = state p .before .before .before .before .args in
-    let text = answers p (take (m .u + kept p) (p .put-bytes .last .0)) in
-    let next = an-end p (end .if1 .taken) in (
-      record {
-        held = omega arith;
-        carries = sym (next .0);
-        writes = rw (next .1) (omega (arith, answer .ensures .0, m .inv .0 .writes .0, length-append (said p) text), joined (now (a .out)) 0 (m .made) (said p) text (m .inv .0 .writes .1) (m .inv .0 .writes .0) (answer .ensures .1));
-      },
+    let m = state p .loop in (
+      past-end (answers p) (begun p) (block (found p)) (output p) (m .line) (m .out) (m .u) (m .made) (m .at) (m .inv .0) (found p .before-end .result) (kept p) (p .put-bytes .last .0) (seen (found p)) (many p) (long p) (p .put-bytes .ensures) (end .if1 .taken) (answer .last .1 .1 .1 .0) (answer .result) (answer .ensures .0) (answer .ensures .1),
       omega arith,
       p .put-bytes .kept .0 ∙ m .inv .2,
       answer .kept .1 .1 .1 .0 ∙ m .inv .3,
@@ -176,9 +141,8 @@ loop-less-2 c = search needs
 loop-again-2 : tie.Need-loop-again-2 Inv-loop μ-loop
 loop-again-2 c =
     let p = c .before .before .before in
-    let m = state p .loop in
-    let next = no-end p in (
-      record { held = omega (arith, many p, m .inv .0 .held); carries = sym (next .0); writes = rw (next .1) (m .inv .0 .writes) },
+    let m = state p .loop in (
+      to-end (answers p) (begun p) (block (found p)) (output p) (m .line) (m .out) (m .u) (m .made) (m .at) (m .inv .0) (found p .before-end .result) (kept p) (p .put-bytes .last .0) (seen (found p)) (many p) (long p) (p .put-bytes .ensures),
       inside (found p),
       p .put-bytes .kept .0 ∙ m .inv .2,
       m .inv .3,
