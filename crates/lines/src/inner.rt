@@ -28,6 +28,22 @@ pub fn answer_buffer() -> [u8; 1048607]
     [0; 1048607]
 }
 
+// The bytes of a block, in and out: 64 KiB.
+const BLOCK: usize = 65536;
+
+// Writes bytes to standard output in blocks; whether all could be written.
+fn write_blocks(bytes: &[u8]) -> bool {
+    let mut at: usize = 0;
+    while bytes.len() - at > BLOCK {
+        let next = at + BLOCK;
+        if !io::write_all(STDOUT_FILENO, &bytes[at..next]) {
+            return false;
+        }
+        at = next;
+    }
+    io::write_all(STDOUT_FILENO, &bytes[at..])
+}
+
 // What a turn has done: bytes of the block that were read, the used length of the line buffer, bytes of answers that were
 // handed to the write.
 pub struct Taken {
@@ -52,7 +68,7 @@ fn last(way: Way, line: &[u8], used: usize, out: &mut [u8]) -> Step
     ensures { λ r. ⌜ Finished way (take used (now (line .entry))) (now (out .exit)) r ⌝ }
 {
     let made = finish(way, line, used, out);
-    if io::write_all(STDOUT_FILENO, &out[0..made]) {
+    if write_blocks(&out[0..made]) {
         Step::Ended(made)
     } else {
         Step::CannotEnd(made)
@@ -74,7 +90,7 @@ fn pass(way: Way, line: &mut [u8], used: usize, block: &[u8], out: &mut [u8]) ->
         used: fed.used,
         made: made,
     };
-    if io::write_all(STDOUT_FILENO, &out[0..made]) {
+    if write_blocks(&out[0..made]) {
         Step::More(taken)
     } else {
         Step::CannotWrite(taken)

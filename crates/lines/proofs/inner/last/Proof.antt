@@ -19,20 +19,20 @@ room way l = end-short (answerTo way) (answer-short way) l
 finish-requires : tie.Need-finish-requires
 finish-requires c κs = search needs
 
-sub-write-all : tie.Need-sub-write-all
-sub-write-all c = search needs
+sub-write-blocks : tie.Need-sub-write-blocks
+sub-write-blocks c = search needs
 
-part-write-all-start : tie.Need-part-write-all-start
-part-write-all-start c = search needs
+part-write-blocks-start : tie.Need-part-write-blocks-start
+part-write-blocks-start c = search needs
 
-part-write-all-end : tie.Need-part-write-all-end
-part-write-all-end c =
+part-write-blocks-end : tie.Need-part-write-blocks-end
+part-write-blocks-end c =
     let end = c .before .before .before in
     let a = end .before .before .before .before .args in
     omega (arith, end .finish .ensures .0, room (a .way) (take (a .used) (now (a .line))))
 
-write-all-requires : tie.Need-write-all-requires
-write-all-requires c κs = search needs
+write-blocks-requires : tie.Need-write-blocks-requires
+write-blocks-requires c κs = search needs
 
 same-length : tie.Need-same-length
 same-length c = search needs
@@ -57,10 +57,10 @@ last-spec =
     tie.close
     (tie.spec
     finish-requires
-    sub-write-all
-    part-write-all-start
-    part-write-all-end
-    write-all-requires
+    sub-write-blocks
+    part-write-blocks-start
+    part-write-blocks-end
+    write-blocks-requires
     same-length
     returns
     same-length-2

@@ -48,17 +48,17 @@ module _ (c : tie.After-feed) where
 feed-requires : tie.Need-feed-requires
 feed-requires c κs = search needs
 
-sub-write-all : tie.Need-sub-write-all
-sub-write-all c = search needs
+sub-write-blocks : tie.Need-sub-write-blocks
+sub-write-blocks c = search needs
 
-part-write-all-start : tie.Need-part-write-all-start
-part-write-all-start c = search needs
+part-write-blocks-start : tie.Need-part-write-blocks-start
+part-write-blocks-start c = search needs
 
-part-write-all-end : tie.Need-part-write-all-end
-part-write-all-end c = let f = c .before .before .before .before .before in omega (arith, room f, f .feed .ensures .writes .0, f .feed .kept .1 .1 .1 .1 .0)
+part-write-blocks-end : tie.Need-part-write-blocks-end
+part-write-blocks-end c = let f = c .before .before .before .before .before in omega (arith, room f, f .feed .ensures .writes .0, f .feed .kept .1 .1 .1 .1 .0)
 
-write-all-requires : tie.Need-write-all-requires
-write-all-requires c κs = search needs
+write-blocks-requires : tie.Need-write-blocks-requires
+write-blocks-requires c κs = search needs
 
 same-length : tie.Need-same-length
 same-length c = search needs
@@ -83,10 +83,10 @@ pass-spec =
     tie.close
     (tie.spec
     feed-requires
-    sub-write-all
-    part-write-all-start
-    part-write-all-end
-    write-all-requires
+    sub-write-blocks
+    part-write-blocks-start
+    part-write-blocks-end
+    write-blocks-requires
     same-length
     same-length-2
     returns
