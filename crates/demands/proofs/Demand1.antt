@@ -4,7 +4,6 @@ use mathlib.Core.Logic.{_≢_}
 use mathlib.Core.Bool.{Bool, true, false, cond}
 use mathlib.Core.List.{List, []}
 use Prim.Native.Nat.{ℕ, _+_, _*_, _%_}
-use borrow.Author.Tests.{eq-eqb, ne-eqb}
 use lib.Dec.{eqb}
 use lib.ListN.{length, getElem?}
 use lib.IntN.{pos, _+ℤ_, _-ℤ_, _*ℤ_}
@@ -20,9 +19,10 @@ use Rattle.tables.specs.Entries.{Entry, entry, offsetAt, currentOffset, lastUpd
 use Rattle.tables.specs.Slots.{paired, entriesOf, ofValid, tableOf, extended, made}
 use Rattle.tables.specs.declared.LeapTable.{LeapTable}
 use Rattle.tables.proofs.Extensions.{refusal-keeps}
-use Rattle.images.specs.Image.{sized, imageBytes, tableIn, tableOfImage, imageOf, stored, entriesIn, builtFrom}
+use Rattle.images.specs.Image.{sized, tableIn, tableOfImage, imageOf, stored, entriesIn, builtFrom}
 use Rattle.conversions.specs.Conversions.{gpsToUtc, utcToGps, glonassToUtc, utcToGlonass, glonassToGps, gpsToGlonass, unixToGps, gpsToUnix}
 use Rattle.builtin.specs.Builtin.{builtin}
+use Rattle.images.proofs.Whole.{of-size, not-of-size}
 use Rattle.listed.specs.Listed.{ofListed}
 use Rattle.plaitgate.specs.Civil.{fields}
 use Rattle.plaitgate.specs.Tables.{leaves, changed, bit, foundEntry, foundCount}
@@ -137,17 +137,11 @@ of-written-tables = record {
   try-extend = λ κ a k e p n. image-kept (sized (now (a .0))) (extended (tableIn (now (a .0))) (entry (a .1 .0) (a .1 .1 .0))) p n;
   from-entries = λ κ a k e p n s.
       let given = builtFrom (now (a .0)) in
-      let q : leaves k (now (e .1 .0)) ≡ (given .0, imageOf (given .1)) = p ∙ sym (sized-holds (now (a .1 .0)) (given .0, imageOf (given .1)) (8, now (a .1 .0)) s) in
+      let q : leaves k (now (e .1 .0)) ≡ (given .0, imageOf (given .1)) = p ∙ sym (of-size (now (a .1 .0)) (given .0, imageOf (given .1)) (8, now (a .1 .0)) s) in
       ap (λ (x : ℕ × List ℕ). x .1) q
       ∙ ap imageOf (built-empty (eqb (length (now (a .0)) % 12) 0) (building (entriesIn (now (a .0)))) (λ z. n (ap (λ (x : ℕ × List ℕ). x .0) q ∙ z)));
-  from-entries-no-image = λ κ a k e p s. ap (λ (x : ℕ × List ℕ). x .1) (p ∙ sym (sized-fails (now (a .1 .0)) (builtFrom (now (a .0)) .0, imageOf (builtFrom (now (a .0)) .1)) (8, now (a .1 .0)) s));
+  from-entries-no-image = λ κ a k e p s. ap (λ (x : ℕ × List ℕ). x .1) (p ∙ sym (not-of-size (now (a .1 .0)) (builtFrom (now (a .0)) .0, imageOf (builtFrom (now (a .0)) .1)) (8, now (a .1 .0)) s));
 }
-  where
-    sized-holds : (b : List ℕ) (x y : ℕ × List ℕ) → length b ≡ imageBytes → x ≡ cond (sized b) x y
-    sized-holds b x y s = rw (eq-eqb (length b) imageBytes s)
-
-    sized-fails : (b : List ℕ) (x y : ℕ × List ℕ) → length b ≢ imageBytes → y ≡ cond (sized b) x y
-    sized-fails b x y s = rw (ne-eqb (length b) imageBytes s)
 
 pub of-tables : OfTables
 of-tables = record {

@@ -1,8 +1,6 @@
 // Lookups and conversions by the table in an image, tested and looked up where it lies: no table is made of it.
 // Bytes of another size than an image's are no valid table. Every call gives 8 first.
-mod lookup;
-mod plain;
-mod slots;
+mod inner;
 
 ghost use mathlib.Core.Path.{_≡_};
 ghost use lib.Dec.{eqb};
@@ -15,6 +13,9 @@ ghost use Rattle.tables.specs.Answers.{lengthIn, emptyIn, entryIn, updateIn, of
 ghost use Rattle.images.specs.Image.{tableOfImage};
 ghost use Rattle.conversions.specs.Conversions.{gpsToUtc, utcToGps, glonassToGps, gpsToGlonass, unixToGps, gpsToUnix};
 ghost use Rattle.conversions.specs.Answers.{unixIn};
+use crate::inner::lookup;
+use crate::inner::plain;
+use crate::inner::slots;
 use conversions::UnixAnswer;
 use conversions::inner::after_utc;
 use images::inner::IMAGE_BYTES;

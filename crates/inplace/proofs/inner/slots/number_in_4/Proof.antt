@@ -1,0 +1,74 @@
+-- `inner::slots::number_in_4` meets its contract: four bytes, each 256 times as heavy as the one before.
+use native.Mathlib.Omega.{arith}
+use borrow.Author.Needs.{needs}
+use denote.Ref.{now}
+use Rattle.inplace.proofs.InSlots.{number-in-4}
+use Rattle.inplace.proofs.inner.slots.number_in_4.Statement.{statement}
+use Rattle.inplace.proofs.inner.slots.number_in_4.Tie as tie
+
+byte-requires : tie.Need-byte-requires
+byte-requires c κs = search needs
+
+add-byte : tie.Need-add-byte
+add-byte c = search needs
+
+byte-requires-2 : tie.Need-byte-requires-2
+byte-requires-2 c κs = search needs
+
+mul-result : tie.Need-mul-result
+mul-result c = search needs
+
+add-result : tie.Need-add-result
+add-result c = search needs
+
+add-byte-2 : tie.Need-add-byte-2
+add-byte-2 c = search needs
+
+byte-requires-3 : tie.Need-byte-requires-3
+byte-requires-3 c κs = search needs
+
+mul-result-2 : tie.Need-mul-result-2
+mul-result-2 c = search needs
+
+add-result-2 : tie.Need-add-result-2
+add-result-2 c = search needs
+
+add-byte-3 : tie.Need-add-byte-3
+add-byte-3 c = search needs
+
+byte-requires-4 : tie.Need-byte-requires-4
+byte-requires-4 c κs = search needs
+
+mul-result-3 : tie.Need-mul-result-3
+mul-result-3 c = search needs
+
+add-result-3 : tie.Need-add-result-3
+add-result-3 c = search needs
+
+returns : tie.Need-returns
+returns c =
+    let third = c .before in
+    let second = third .before in
+    let first = second .before in
+    let a = first .before .before .args in
+    let is = number-in-4 (now (a .bytes)) (a .at) (omega arith) in
+    (omega (arith, is, first .byte .ensures .0, second .byte2 .ensures .0, third .byte3 .ensures .0), omega arith)
+
+pub number-in-4-spec : {M : Type 1} → statement M
+number-in-4-spec =
+    tie.close
+    (tie.spec
+    byte-requires
+    add-byte
+    byte-requires-2
+    mul-result
+    add-result
+    add-byte-2
+    byte-requires-3
+    mul-result-2
+    add-result-2
+    add-byte-3
+    byte-requires-4
+    mul-result-3
+    add-result-3
+    returns)
