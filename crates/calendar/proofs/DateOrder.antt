@@ -1,6 +1,6 @@
 -- Later days have later dates.
 use mathlib.Core.Path.{_≡_, refl, sym, ap, subst, _∙_}
-use mathlib.Core.Logic.{inl, inr}
+use mathlib.Core.Logic.{_⊎_, inl, inr}
 use Prim.Native.Nat.{ℕ, zero, suc, _≤_, _<_}
 use native.Mathlib.Omega.{arith}
 use native.Mathlib.Decide.{decLt}
@@ -8,9 +8,17 @@ use lib.Dec.{T, ltb→lt, lt→ltb, le→leb}
 use lib.IntN.{ℤ, pos, negsuc, sucℤ}
 use lib.Signed.{_≤ℤ_, _<ℤ_, ltZ, leZ, <ℤ-≤ℤ-trans}
 use Rattle.calendar.specs.Calendar.{Date, Real, next, dateOf}
-use Rattle.calendar.specs.Order.{Before, by-year, by-month, by-day, NotAfter}
 use Rattle.calendar.proofs.DayByDay.{after}
 use Rattle.calendar.proofs.CalendarTheorems.{real-date}
+
+-- the order of dates: by year, then by month, then by day
+pub data Before (a b : Date) : Type 0 where
+  by-year : a .year <ℤ b .year → Before a b
+  by-month : a .year ≡ b .year → a .month < b .month → Before a b
+  by-day : a .year ≡ b .year → a .month ≡ b .month → a .day < b .day → Before a b
+
+abbrev pub NotAfter : Date → Date → Type 0
+NotAfter a b = Before a b ⊎ (a ≡ b)
 
 -- the statement
 abbrev pub LaterDaysHaveLaterDates : Type 0

@@ -4,4 +4,3 @@ pub mod March
 pub mod Dates
 pub mod Answers
 pub mod Epochs
-pub mod Order

@@ -17,9 +17,8 @@ use Rattle.counts.proofs.Fitting.{is-count}
 use Rattle.calendar.specs.Calendar.{on, dateOf}
 use Rattle.calendar.specs.Formula.{era, yoe, doy, doe, formula, dayOf}
 use Rattle.calendar.specs.Dates.{utcEpochDay}
-use Rattle.calendar.specs.Order.{NotAfter}
 use Rattle.calendar.proofs.CalendarTheorems.{day-of-date, date-of-day}
-use Rattle.calendar.proofs.DateOrder.{no-earlier-dates}
+use Rattle.calendar.proofs.DateOrder.{NotAfter, no-earlier-dates}
 use Rattle.civil.specs.Fields.{Fields, RealFields, fieldsIn, fieldsOf, timeOf, onDay, countAt}
 use Rattle.civil.specs.declared.CivilDateTime.{CivilDateTime}
 use Rattle.civil.proofs.Tells.{fields-tell}

@@ -11,11 +11,10 @@ use mir.Syntax.{w32}
 use mir.Val.{SFits}
 use Rattle.calendar.specs.Calendar.{Date, Real, on, leap, daysIn, unixEpoch, dateOf}
 use Rattle.calendar.specs.Formula.{era, yoe, doy, doe, formula}
-use Rattle.calendar.specs.Order.{by-year, by-month, by-day, NotAfter}
 use Rattle.calendar.proofs.Tested.{every, at}
 use Rattle.calendar.proofs.RealDates.{real}
 use Rattle.calendar.proofs.CalendarTheorems.{real-date, date-of-day}
-use Rattle.calendar.proofs.DateOrder.{no-earlier-dates}
+use Rattle.calendar.proofs.DateOrder.{by-year, by-month, by-day, NotAfter, no-earlier-dates}
 use Rattle.civil.specs.Fields.{fieldsOf}
 use Rattle.stamps.specs.Form.{Fits}
 use Rattle.lines.specs.Answers.{stampOf}
