@@ -1,27 +1,15 @@
--- What is promised of tables: what the tests test, what an extension or a building leaves, and which entry a lookup answers by.
+-- What is promised of tables: what an extension or a building leaves, and which entry a lookup answers by.
 use mathlib.Core.Path.{_≡_}
 use mathlib.Core.Bool.{true}
 use mathlib.Core.List.{List, [], _∷_, _++_}
 use mathlib.Core.Option.{some}
-use Prim.Native.Nat.{ℕ, suc, _+_, _≤_, _<_}
+use Prim.Native.Nat.{ℕ, _≤_, _<_}
 use lib.ListN.{length, getD, getElem?}
-use lib.IntN.{ℤ, pos, _+ℤ_}
+use lib.IntN.{pos}
 use Rattle.tables.specs.declared.LeapEntry.{LeapEntry}
 use Rattle.tables.specs.declared.LeapTable.{LeapTable}
-use Rattle.tables.specs.Entries.{Entry, threshold, offset, entry, day, offsetAt}
+use Rattle.tables.specs.Entries.{Entry, threshold, offset, offsetAt}
 use Rattle.tables.specs.Slots.{entriesOf, validTable}
-
--- thresholds rise strictly, and offsets by exactly 1
-pub record Valid (es : List Entry) : Type 0 where
-  pub rises : (k : ℕ) (p e : Entry) → getElem? es k ≡ some p → getElem? es (suc k) ≡ some e → threshold p < threshold e
-  pub by-one : (k : ℕ) (p e : Entry) → getElem? es k ≡ some p → getElem? es (suc k) ≡ some e → offset e ≡ offset p +ℤ pos 1
-
--- valid, at most 64 entries, begins (0, 19), and each later threshold is at least a day above the one before
-pub record Regular (es : List Entry) : Type 0 where
-  pub valid : Valid es
-  pub few : length es ≤ 64
-  pub begins : getElem? es 0 ≡ some (entry 0 (pos 19))
-  pub a-day-on : (k : ℕ) (p e : Entry) → getElem? es k ≡ some p → getElem? es (suc k) ≡ some e → threshold p + day ≤ threshold e
 
 -- the arrays of a table have 64 slots each, as their type says
 pub record Sized (t : LeapTable) : Type 0 where
