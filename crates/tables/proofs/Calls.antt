@@ -12,7 +12,6 @@ use Rattle.tables.proofs.LeapTable.entry_at.Reads as entry-at-contract
 use Rattle.tables.proofs.LeapTable.last_update.Reads as last-update-contract
 use Rattle.tables.proofs.LeapTable.current_tai_minus_utc.Reads as current-tai-minus-utc-contract
 use Rattle.tables.proofs.LeapTable.tai_minus_utc_at.Reads as tai-minus-utc-at-contract
-use Rattle.tables.proofs.lent.tai_minus_utc_at.Reads as lent-tai-minus-utc-at-contract
 
 pub entry-new : OneAnswer entry-new-contract.Post
 entry-new κ a x y e f p q = p ∙ sym q
@@ -43,6 +42,3 @@ current-tai-minus-utc κ a x y e f p q = viewed offset-tells x y p q
 
 pub tai-minus-utc-at : OneAnswer tai-minus-utc-at-contract.Post
 tai-minus-utc-at κ a x y e f p q = viewed offset-tells x y p q
-
-pub lent-tai-minus-utc-at : OneAnswer lent-tai-minus-utc-at-contract.Post
-lent-tai-minus-utc-at κ a x y e f p q = viewed offset-tells x y p q

@@ -4,12 +4,14 @@ ghost use mathlib.Core.Bool.{true};
 ghost use Prim.Native.Nat.{ℕ, _+_, _≤_, _<_, min};
 ghost use lib.Dec.{eqb};
 ghost use lib.ListN.{length};
+ghost use Rattle.refusals.specs.Outcome.{answered};
 ghost use Rattle.tables.specs.Entries.{stepRefusal, firstRefusal, joinRefusal, offsetAt, valid};
-ghost use Rattle.tables.specs.Slots.{slotAt, slots, validSlots, joinedTo, tableOf};
+ghost use Rattle.tables.specs.Slots.{slotAt, slots, validSlots, ofValidSlots, joinedTo, tableOf};
 ghost use Rattle.tables.specs.Search.{Rises, Passed};
-ghost use Rattle.tables.specs.Answers.{takenIn};
+ghost use Rattle.tables.specs.Answers.{takenIn, offsetIn};
 use crate::LeapEntry;
 use crate::LeapTable;
+use crate::OffsetAnswer;
 use crate::RUNTIME_CAPACITY;
 use crate::Taken;
 use refusals::Refusal;
@@ -115,6 +117,22 @@ pub fn offset_at<'a>(thresholds: &'a [u64], offsets: &'a [i32], n: usize, tai: u
     }
     let k = passed(thresholds, n, tai);
     if k == 0 { offsets[0] } else { offsets[k - 1] }
+}
+
+// The offset in force at a TAI reading, or 8 where the first n slots are not those of a valid table.
+pub fn checked_offset_at<'a>(
+    thresholds: &'a [u64; 64],
+    offsets: &'a [i32; 64],
+    n: usize,
+    tai: u64,
+) -> OffsetAnswer
+    ensures { λ r. ⌜ offsetIn r ≡ ofValidSlots (now (thresholds .entry)) (now (offsets .entry)) n (answered (offsetAt (slots (now (thresholds .entry)) (now (offsets .entry)) n) tai)) ⌝ }
+{
+    if is_valid(thresholds, offsets, n) {
+        OffsetAnswer::Offset(offset_at(thresholds, offsets, n, tai))
+    } else {
+        OffsetAnswer::Refused(Refusal::BadTable)
+    }
 }
 
 // Whether an entry can be joined to the first n.

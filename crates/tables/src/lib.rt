@@ -1,7 +1,6 @@
 // Leap-second tables, after leap.rs: building, extension, and the offset TAI minus UTC in force at a TAI reading.
 // A caller may make a table by hand, so every call with a table tests it first, and refuses 8 where it is not valid.
 pub mod inner;
-pub mod lent;
 pub mod table;
 
 ghost use mathlib.Core.Path.{_≡_};

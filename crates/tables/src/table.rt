@@ -19,7 +19,6 @@ use crate::RUNTIME_CAPACITY;
 use crate::Taken;
 use crate::UpdateAnswer;
 use crate::inner;
-use crate::lent;
 use refusals::Refusal;
 use scales::tai::Tai;
 
@@ -145,7 +144,7 @@ impl LeapTable {
         ensures { λ r. ⌜ offsetIn r ≡ ofValid self (answered (offsetAt (entriesOf self) (tai .0))) ⌝ }
     {
         let n = self.len;
-        lent::tai_minus_utc_at(&self.thresholds, &self.offsets, n, tai)
+        inner::checked_offset_at(&self.thresholds, &self.offsets, n, tai.0)
     }
 }
 

@@ -1,4 +1,4 @@
--- `lent::tai_minus_utc_at` tests the slots, and answers the offset in force among valid ones.
+-- `inner::checked_offset_at` tests the slots, and answers the offset in force among valid ones.
 use mathlib.Core.Path.{_≡_, sym, ap, _∙_}
 use mathlib.Core.Bool.{true}
 use denote.Ref.{now}
@@ -9,8 +9,8 @@ use Rattle.refusals.specs.Outcome.{answered}
 use Rattle.tables.specs.Slots.{validSlots}
 use Rattle.tables.proofs.Checked.{few-slots, valid-slots, good-slots, bad-slots}
 use borrow.Author.Needs.{needs}
-use Rattle.tables.proofs.lent.tai_minus_utc_at.Statement.{statement}
-use Rattle.tables.proofs.lent.tai_minus_utc_at.Tie as tie
+use Rattle.tables.proofs.inner.checked_offset_at.Statement.{statement}
+use Rattle.tables.proofs.inner.checked_offset_at.Tie as tie
 
 passed : (c : tie.Then1)
     → validSlots (now (c .before .before .args .thresholds)) (now (c .before .before .args .offsets)) (c .before .before .args .n) ≡ true
@@ -38,5 +38,5 @@ returns-2 c =
     let a = c .before .before .args in
     bad-slots (now (a .thresholds)) (now (a .offsets)) (a .n) _ (sym (c .before .is-valid .ensures) ∙ c .if1 .left)
 
-pub tai-minus-utc-at-spec : {M : Type 1} → statement M
-tai-minus-utc-at-spec = tie.close (tie.spec is-valid-requires offset-at-requires returns returns-2)
+pub checked-offset-at-spec : {M : Type 1} → statement M
+checked-offset-at-spec = tie.close (tie.spec is-valid-requires offset-at-requires returns returns-2)
