@@ -15,9 +15,10 @@ use Rattle.scales.specs.Scales.{taiMinusGps}
 use Rattle.calendar.specs.Calendar.{on}
 use Rattle.calendar.specs.Dates.{daysFromUnix, daysUntil, secondsUntil, nanosUntil}
 use Rattle.civil.specs.Fields.{countAt}
-use Rattle.tables.specs.Entries.{Entry, entry, offsetAt, currentOffset, lastUpdate, building}
-use Rattle.tables.specs.Slots.{paired, entriesOf, ofValid, tableOf, extended, made}
+use Rattle.tables.specs.Entries.{Entry, entry, offsetAt, currentOffset, lastUpdate}
+use Rattle.tables.specs.Slots.{paired, entriesOf, ofValid, tableOf, extended, built}
 use Rattle.tables.specs.declared.LeapTable.{LeapTable}
+use Rattle.tables.proofs.Buildings.{building-refused}
 use Rattle.tables.proofs.Extensions.{refusal-keeps}
 use Rattle.images.specs.Image.{sized, tableIn, tableOfImage, imageOf, stored, entriesIn, builtFrom}
 use Rattle.conversions.specs.Conversions.{gpsToUtc, utcToGps, glonassToUtc, utcToGlonass, glonassToGps, gpsToGlonass, unixToGps, gpsToUnix}
@@ -122,13 +123,9 @@ image-kept true x p n = left-as-they-were (eqb (x .0) 0) (imageOf (x .1)) (x .0)
 image-kept false x p n = ap (λ (y : ℕ × List ℕ). y .1) p
 
 -- a building that is refused makes the table with no entry
-made-empty : (o : Outcome (List Entry)) → made o .0 ≢ 0 → made o .1 ≡ tableOf []
-made-empty (answered es) n = absurd (n refl)
-made-empty (refused k) n = refl
-
-built-empty : (test : Bool) (o : Outcome (List Entry)) → cond test (made o) (8, tableOf []) .0 ≢ 0 → cond test (made o) (8, tableOf []) .1 ≡ tableOf []
-built-empty true o n = made-empty o n
-built-empty false o n = refl
+built-empty : (test : Bool) (es : List Entry) → cond test (built es) (8, tableOf []) .0 ≢ 0 → cond test (built es) (8, tableOf []) .1 ≡ tableOf []
+built-empty true es n = building-refused es n
+built-empty false es n = refl
 
 pub of-written-tables : OfWrittenTables
 of-written-tables = record {
@@ -139,7 +136,7 @@ of-written-tables = record {
       let given = builtFrom (now (a .0)) in
       let q : leaves k (now (e .1 .0)) ≡ (given .0, imageOf (given .1)) = p ∙ sym (of-size (now (a .1 .0)) (given .0, imageOf (given .1)) (8, now (a .1 .0)) s) in
       ap (λ (x : ℕ × List ℕ). x .1) q
-      ∙ ap imageOf (built-empty (eqb (length (now (a .0)) % 12) 0) (building (entriesIn (now (a .0)))) (λ z. n (ap (λ (x : ℕ × List ℕ). x .0) q ∙ z)));
+      ∙ ap imageOf (built-empty (eqb (length (now (a .0)) % 12) 0) (entriesIn (now (a .0))) (λ z. n (ap (λ (x : ℕ × List ℕ). x .0) q ∙ z)));
   from-entries-no-image = λ κ a k e p s. ap (λ (x : ℕ × List ℕ). x .1) (p ∙ sym (not-of-size (now (a .1 .0)) (builtFrom (now (a .0)) .0, imageOf (builtFrom (now (a .0)) .1)) (8, now (a .1 .0)) s));
 }
 
@@ -148,7 +145,7 @@ of-tables = record {
   try-extend = λ κ a x e p n.
       ap (λ (y : ℕ × LeapTable). y .1) p ∙ refusal-keeps (a .0) (a .1 .0) (λ z. n (ap (λ (y : ℕ × LeapTable). y .0) p ∙ z));
   from-lists = λ κ a x e p n.
-      ap (λ (y : ℕ × LeapTable). y .1) p ∙ made-empty (building (paired (now (a .0)) (now (a .1 .0)))) (λ z. n (ap (λ (y : ℕ × LeapTable). y .0) p ∙ z));
+      ap (λ (y : ℕ × LeapTable). y .1) p ∙ building-refused (paired (now (a .0)) (now (a .1 .0))) (λ z. n (ap (λ (y : ℕ × LeapTable). y .0) p ∙ z));
   try-extend-in-place = λ before after e x p n.
       ap (λ (y : ℕ × LeapTable). y .1) p ∙ refusal-keeps before e (λ z. n (ap (λ (y : ℕ × LeapTable). y .0) p ∙ z));
 }

@@ -8,8 +8,11 @@ use lib.Dec.{lit<}
 use lib.ListN.{length, getD, take, drop, length-take, length-drop}
 use lib.Seq.{take-at, drop-at, take-add, getD-drop, length-take-le}
 use Rattle.images.specs.Image.{numberIn, bytesOf, numbersIn, bytesOfAll}
-use Rattle.images.specs.Promises.{Below}
 use Rattle.images.proofs.Fields.{bytes-count}
+
+-- each number of a list is below a bound
+abbrev pub Below : ℕ → List ℕ → Type 0
+Below m ns = (i : ℕ) → getD ns i 0 < m
 
 below-take : {m : ℕ} (k : ℕ) (ns : List ℕ) → Below m ns → Below m (take k ns)
 below-take zero ns h i = let first = h 0 in omega arith

@@ -4,5 +4,5 @@ pub mod Fields
 pub mod Whole
 pub mod ListedEntries
 pub mod Inverses
-pub mod ImageTheorems
+pub mod NothingLost
 pub mod Calls

@@ -1,18 +1,60 @@
--- The lent forms agree with the calls by value.
-use mathlib.Core.Path.{_≡_, refl, sym, ap, _∙_}
-use mathlib.Core.List.{[], _∷_}
-use Prim.Native.Nat.{ℕ}
-use native.Mathlib.Omega.{arith}
-use native.Mathlib.Decide.{ℕ-discrete}
-use borrow.Author.Tests.{le-leb}
-use Rattle.refusals.specs.Outcome.{answered}
-use Rattle.tables.specs.Entries.{offsetAt, firstRefusal, building, checking}
-use Rattle.tables.specs.Slots.{entriesOf, built}
+-- The lent forms agree with the calls by value: both answer by the same definitions.
+use mathlib.Core.Path.{_≡_, sym, ap, _∙_}
+use mathlib.Core.List.{List}
+use Prim.Native.Nat.{ℕ, _≤_}
+use borrow.Author.Tests.{le-leb, le-ltb}
+use lib.ListN.{length}
+use Rattle.refusals.specs.Outcome.{Outcome, answered}
+use Rattle.tables.specs.Answers.{takenIn, extensionIn, offsetIn}
+use Rattle.tables.specs.Entries.{Entry, offsetAt, checking}
+use Rattle.tables.specs.Slots.{entriesOf, ofValid, extended, built}
+use Rattle.tables.specs.declared.LeapEntry.{LeapEntry}
 use Rattle.tables.specs.declared.LeapTable.{LeapTable}
-use Rattle.tables.proofs.Growing.{entry-refused, all-taken}
-use Rattle.tables.proofs.Buildings.{building-builds}
+use Rattle.tables.specs.declared.Extension.{Extension}
+use Rattle.tables.specs.declared.OffsetAnswer.{OffsetAnswer}
+use Rattle.tables.specs.declared.Taken.{Taken}
+use Rattle.tables.proofs.Buildings.{Builds, building-builds}
 use Rattle.tables.proofs.Tells.{taken-tells, offset-tells}
-use Rattle.lent.specs.Promises.{RefusedAlike, LookedUpAlike, AnsweredAlike, CheckedAlike, CheckedBuilds, JudgedAlike, ExtendedAlike}
+use Rattle.lent.specs.Lists.{ofValidList}
+
+-- a table's own entries, lent as a list, are refused 8 exactly where the table is: what is answered of the one is answered of the other
+abbrev pub RefusedAlike : Type 1
+RefusedAlike = (A : Type 0) (t : LeapTable) (a : Outcome A) → t .len ≤ 64 → ofValidList (entriesOf t) a ≡ ofValid t a
+
+-- so they are looked up at every reading as the table is
+abbrev pub LookedUpAlike : Type 0
+LookedUpAlike =
+    (t : LeapTable) (reading : ℕ) → t .len ≤ 64
+    → ofValidList (entriesOf t) (answered (offsetAt (entriesOf t) reading)) ≡ ofValid t (answered (offsetAt (entriesOf t) reading))
+
+-- and two answers that meet the contracts of the two lookups are the same
+abbrev pub AnsweredAlike : Type 0
+AnsweredAlike =
+    (t : LeapTable) (reading : ℕ) (lent by-value : OffsetAnswer) → t .len ≤ 64
+    → offsetIn lent ≡ ofValidList (entriesOf t) (answered (offsetAt (entriesOf t) reading))
+    → offsetIn by-value ≡ ofValid t (answered (offsetAt (entriesOf t) reading))
+    → lent ≡ by-value
+
+-- the check of at most 64 entries gives the number that building from them gives: 0, or the same refusal
+abbrev pub CheckedAlike : Type 0
+CheckedAlike = (es : List Entry) → length es ≤ 64 → checking es ≡ built es .0
+
+-- where it gives 0, the table that is built holds the list
+abbrev pub CheckedBuilds : Type 0
+CheckedBuilds = (es : List Entry) → length es ≤ 64 → checking es ≡ 0 → Builds es (built es .1)
+
+-- and answers that meet the contracts of the check and of building are the same
+abbrev pub JudgedAlike : Type 0
+JudgedAlike =
+    (es : List Entry) (checked : Taken) (x : Extension) → length es ≤ 64
+    → takenIn checked ≡ checking es → extensionIn x ≡ built es → checked ≡ x .answer
+
+-- an extension in place gives the answer of the extension by value, and leaves its table
+abbrev pub ExtendedAlike : Type 0
+ExtendedAlike =
+    (t : LeapTable) (e : LeapEntry) (lent : Taken) (after : LeapTable) (by-value : Extension)
+    → (takenIn lent, after) ≡ extended t e → extensionIn by-value ≡ extended t e
+    → (lent ≡ by-value .answer) × (after ≡ by-value .table)
 
 pub refused-alike : RefusedAlike
 refused-alike A t a few = rw (le-leb (t .len) 64 few)
@@ -24,16 +66,7 @@ pub answered-alike : AnsweredAlike
 answered-alike t reading lent by-value few p q = offset-tells lent by-value (p ∙ looked-up-alike t reading few ∙ sym q)
 
 pub checked-alike : CheckedAlike
-unfolding checking building
-checked-alike [] few = refl
-checked-alike (e ∷ es) few = by-first (ℕ-discrete (firstRefusal (e ∷ es)) 0)
-  where
-    number : {k : ℕ} {t : LeapTable} → (k, t) ≡ built (e ∷ es) → k ≡ built (e ∷ es) .0
-    number p = ap (λ (x : ℕ × LeapTable). x .0) p
-
-    by-first : Dec (firstRefusal (e ∷ es) ≡ 0) → firstRefusal (e ∷ es) ≡ built (e ∷ es) .0
-    by-first (yes z) = z ∙ number (all-taken (e ∷ es) (omega arith) few (sym z))
-    by-first (no n) = number (entry-refused (e ∷ es) (firstRefusal (e ∷ es)) (omega arith) few n refl)
+checked-alike es few = rw (le-ltb 64 (length es) few)
 
 pub checked-builds : CheckedBuilds
 checked-builds es few z = building-builds es (sym (checked-alike es few) ∙ z)

@@ -1,4 +1,3 @@
 pub mod Lists
 pub mod Pass
-pub mod Promises
 pub mod Copied

@@ -1,4 +1,4 @@
--- One pass over a list, from its first entry to its last: what is known of the entries passed. Contracts of private functions cite it.
+-- One pass over a list, from its first entry to its last: what is known of the entries passed. Only contracts of private functions cite it.
 use mathlib.Core.Bool.{cond}
 use mathlib.Core.List.{List, [], _∷_}
 use mathlib.Core.Option.{Option, none, some}

@@ -4,17 +4,33 @@ use mathlib.Core.Bool.{true}
 use mathlib.Core.List.{List, [], _∷_, _++_, map}
 use Prim.Native.Nat.{ℕ, _-_, _≤_, _<_}
 use native.Mathlib.Omega.{arith}
-use native.Mathlib.Decide.{decLt, ℕ-discrete}
-use borrow.Author.Tests.{le-leb}
+use native.Mathlib.Decide.{decLt}
+use denote.Ref.{now}
+use borrow.Author.Tests.{le-leb, lt-ltb, le-ltb, ne-eqb}
 use lib.ListN.{length, take, replicate}
 use lib.Seq.{take-append-seam}
 use lib.IntN.{ℤ, pos}
-use Rattle.tables.specs.Entries.{Entry, threshold, offset, valid, firstRefusal}
+use Rattle.refusals.specs.declared.Refusal.{Refusal}
+use Rattle.tables.specs.Answers.{takenIn}
+use Rattle.tables.specs.Entries.{Entry, threshold, offset, valid, firstRefusal, checking, buildingRefusal}
 use Rattle.tables.specs.Slots.{paired, entriesOf, validTable, tableOf, built}
-use Rattle.tables.specs.Promises.{Builds}
 use Rattle.tables.specs.declared.LeapTable.{LeapTable}
+use Rattle.tables.specs.declared.Taken.{Taken}
+use Rattle.tables.specs.declared.Taken.the-variants as taken
 use Rattle.tables.proofs.Neighbours.{passes-valid}
-use Rattle.tables.proofs.Growing.{none-built, too-many, entry-refused, all-taken}
+use Rattle.tables.proofs.RefusalNumbers.{number-not-zero}
+use Rattle.tables.proofs.LeapTable.from_lists.Reads as from-lists-contract
+
+-- the table after an accepted building: the list itself, its length that list's length
+pub record Builds (es : List Entry) (table : LeapTable) : Type 0 where
+  pub list : entriesOf table ≡ es
+  pub size : table .len ≡ length es
+  pub valid : validTable table ≡ true
+
+-- what a building leaves by its answer
+pub record Makes (es : List Entry) (answer : Taken) (table : LeapTable) : Type 0 where
+  pub done : answer ≡ taken.Done → Builds es table
+  pub refused : (why : Refusal) → answer ≡ taken.Refused why → table ≡ tableOf []
 
 side-by-side : (es : List Entry) (xs : List ℕ) (zs : List ℤ) → paired (map threshold es ++ xs) (map offset es ++ zs) ≡ es ++ paired xs zs
 unfolding paired
@@ -30,45 +46,35 @@ table-list es =
 pub table-valid : (es : List Entry) → length es ≤ 64 → valid es ≡ true → validTable (tableOf es) ≡ true
 table-valid es l v = rw (le-leb (length es) 64 l, table-list es) v
 
+-- a list that the check takes is valid
+checked-valid : (es : List Entry) → checking es ≡ 0 → valid es ≡ true
+unfolding checking
+checked-valid [] z = absurd (omega arith)
+checked-valid (e ∷ es) z = passes-valid (e ∷ es) z
+
 module _ (es : List Entry) where
-  -- what decides: how many there are, and the first refusal
-  data Decided : Type 0 where
-    none : length es ≡ 0 → Decided
-    many : 64 < length es → Decided
-    refused : 0 < length es → length es ≤ 64 → (firstRefusal es ≡ 0 → ⊥) → Decided
-    taken : 0 < length es → length es ≤ 64 → 0 ≡ firstRefusal es → Decided
-
-  decided : Decided
-  decided = go (decLt 0 (length es)) (decLt 64 (length es)) (ℕ-discrete (firstRefusal es) 0)
-    where
-      go : Dec (0 < length es) → Dec (64 < length es) → Dec (firstRefusal es ≡ 0) → Decided
-      go (no n) m r = none (omega (arith, n))
-      go (yes p) (yes m) r = many m
-      go (yes p) (no m) (yes z) = taken p (omega (arith, m)) (sym z)
-      go (yes p) (no m) (no n) = refused p (omega (arith, m)) n
-
-  number : {k : ℕ} {t : LeapTable} → (k, t) ≡ built es → k ≡ built es .0
-  number e = ap (λ (x : ℕ × LeapTable). x .0) e
-
-  table : {k : ℕ} {t : LeapTable} → (k, t) ≡ built es → t ≡ built es .1
-  table e = ap (λ (x : ℕ × LeapTable). x .1) e
-
   pub building-refused : (built es .0 ≡ 0 → ⊥) → built es .1 ≡ tableOf []
-  building-refused n = go decided
-    where
-      go : Decided → built es .1 ≡ tableOf []
-      go (none h) = sym (table (none-built es h))
-      go (many h) = sym (table (too-many es h))
-      go (refused p h k) = sym (table (entry-refused es (firstRefusal es) p h k refl))
-      go (taken p h z) = absurd (n (sym (number (all-taken es p h z))))
+  building-refused n = rw (ne-eqb (buildingRefusal es) 0 n)
 
   pub building-builds : built es .0 ≡ 0 → Builds es (built es .1)
-  building-builds z = go decided
+  building-builds z = rw z (go (decLt 64 (length es)))
     where
-      go : Decided → Builds es (built es .1)
-      go (none h) = absurd (omega (arith, number (none-built es h) ∙ z))
-      go (many h) = absurd (omega (arith, number (too-many es h) ∙ z))
-      go (refused p h k) = absurd (k (number (entry-refused es (firstRefusal es) p h k refl) ∙ z))
-      go (taken p h r) =
-          rw (← table (all-taken es p h r))
-          (record { list = table-list es; size = refl; valid = table-valid es h (passes-valid es (sym r)) })
+      go : Dec (64 < length es) → Builds es (tableOf es)
+      go (yes l) = let five : _≡_ {A = ℕ} 5 0 = rw (lt-ltb 64 (length es) l) at z in absurd (omega arith)
+      go (no l) =
+          let few : length es ≤ 64 = omega (arith, l) in
+          record { list = table-list es; size = refl; valid = table-valid es few (checked-valid es (rw (le-ltb 64 (length es) few) at z)) }
+
+  -- whatever gives the number and the table of the definition
+  pub makes : (answer : Taken) (table : LeapTable) → (takenIn answer, table) ≡ built es → Makes es answer table
+  makes answer table is =
+      let number : takenIn answer ≡ built es .0 = ap (λ (x : ℕ × LeapTable). x .0) is in
+      let made : table ≡ built es .1 = ap (λ (x : ℕ × LeapTable). x .1) is in
+      record {
+        done = λ d. rw made (building-builds (sym number ∙ ap takenIn d));
+        refused = λ why r. made ∙ building-refused (λ z. number-not-zero why (sym (ap takenIn r) ∙ number ∙ z));
+      }
+
+-- so does the call, by its contract
+pub from-lists : (κ : _) (a : _) (x : _) (end : _) → from-lists-contract.Post κ a x end → Makes (paired (now (a .0)) (now (a .1 .0))) (x .answer) (x .table)
+from-lists κ a x end post = makes (paired (now (a .0)) (now (a .1 .0))) (x .answer) (x .table) post

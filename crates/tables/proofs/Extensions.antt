@@ -4,21 +4,44 @@ use mathlib.Core.Bool.{Bool, true, false}
 use mathlib.Core.List.{List, [], _∷_, _++_}
 use Prim.Native.Nat.{ℕ, _+_, _≤_, _<_}
 use native.Mathlib.Omega.{arith}
-use native.Mathlib.Decide.{decLt, ℕ-discrete}
+use native.Mathlib.Decide.{decLt}
 use native.Mathlib.Numerals.{add-one}
-use borrow.Author.Tests.{le-leb, lt-leb}
-use lib.ListN.{length, length-append}
+use borrow.Author.Tests.{le-leb, lt-leb, ne-eqb}
+use lib.ListN.{length, length-append, getD}
 use lib.Seq.{getD-set-other}
 use lib.IntN.{pos}
+use Rattle.refusals.specs.declared.Refusal.{Refusal}
+use Rattle.tables.specs.Answers.{takenIn}
 use Rattle.tables.specs.Entries.{Entry, neighbours, follows, valid, lastOr, joinRefusal}
-use Rattle.tables.specs.Slots.{entriesOf, validTable, joinedTo, extended}
-use Rattle.tables.specs.Promises.{Sized, Grows}
+use Rattle.tables.specs.Slots.{entriesOf, validTable, joinedTo, extensionRefusal, extended}
 use Rattle.tables.specs.declared.LeapEntry.{LeapEntry}
 use Rattle.tables.specs.declared.LeapTable.{LeapTable}
+use Rattle.tables.specs.declared.Taken.{Taken}
+use Rattle.tables.specs.declared.Taken.the-variants as taken
 use Rattle.tables.proofs.FirstSlots.{one-stored, slots-length}
 use Rattle.tables.proofs.Neighbours.{both, zero-follows}
 use Rattle.tables.proofs.Checked.{checked}
-use Rattle.tables.proofs.Growing.{bad-table, refuses, takes, has-room}
+use Rattle.tables.proofs.Growing.{has-room}
+use Rattle.tables.proofs.RefusalNumbers.{number-not-zero}
+use Rattle.tables.proofs.LeapTable.try_extend.Reads as try-extend-contract
+
+-- the arrays of a table have 64 slots each, as their type says
+pub record Sized (t : LeapTable) : Type 0 where
+  pub thresholds : length (t .thresholds) ≡ 64
+  pub offsets : length (t .offsets) ≡ 64
+
+-- the table after an accepted extension: the old list with the entry joined, its length that list's length, no other slot moved
+pub record Grows (t : LeapTable) (e : LeapEntry) (after : LeapTable) : Type 0 where
+  pub list : entriesOf after ≡ entriesOf t ++ e ∷ []
+  pub size : after .len ≡ length (entriesOf t ++ e ∷ [])
+  pub thresholds : (i : ℕ) → (i ≡ t .len → ⊥) → getD (after .thresholds) i 0 ≡ getD (t .thresholds) i 0
+  pub offsets : (i : ℕ) → (i ≡ t .len → ⊥) → getD (after .offsets) i (pos 0) ≡ getD (t .offsets) i (pos 0)
+  pub valid : validTable after ≡ true
+
+-- what an extension leaves by its answer: where it is done, the table grown by the entry; where it is refused, the table itself
+pub record Extends (t : LeapTable) (e : LeapEntry) (answer : Taken) (after : LeapTable) : Type 0 where
+  pub done : answer ≡ taken.Done → Sized t → Grows t e after
+  pub refused : (why : Refusal) → answer ≡ taken.Refused why → after ≡ t
 
 valid-joined : (p : Entry) (ps : List Entry) (e : Entry) → valid (p ∷ ps) ≡ true → follows (lastOr p ps) e ≡ true → valid (p ∷ ps ++ e ∷ []) ≡ true
 unfolding neighbours lastOr
@@ -41,28 +64,16 @@ stays-valid (p ∷ ps) e v z = go (decLt (length (p ∷ ps)) 64)
         absurd (omega arith)
 
 module _ (t : LeapTable) (e : LeapEntry) where
-  -- what decides: the table's test, and the number of the rule
-  pub data Decided : Type 0 where
-    no-table : validTable t ≡ false → Decided
-    no-entry : validTable t ≡ true → (joinRefusal (entriesOf t) e ≡ 0 → ⊥) → Decided
-    taken : validTable t ≡ true → 0 ≡ joinRefusal (entriesOf t) e → Decided
-
-  decided : Decided
-  decided = by-test (validTable t) refl (ℕ-discrete (joinRefusal (entriesOf t) e) 0)
-    where
-      by-test : (b : Bool) → validTable t ≡ b → Dec (joinRefusal (entriesOf t) e ≡ 0) → Decided
-      by-test false v d = no-table v
-      by-test true v (yes z) = taken v (sym z)
-      by-test true v (no n) = no-entry v n
-
   -- a refused extension keeps the table, all its slots included
   pub refusal-keeps : (extended t e .0 ≡ 0 → ⊥) → extended t e .1 ≡ t
-  refusal-keeps n = go decided
+  refusal-keeps n = rw (ne-eqb (extensionRefusal t e) 0 n)
+
+  accepted : extensionRefusal t e ≡ 0 → (validTable t ≡ true) × (0 ≡ joinRefusal (entriesOf t) e)
+  accepted z = by-test (validTable t) refl
     where
-      go : Decided → extended t e .1 ≡ t
-      go (no-table v) = sym (ap (λ (x : ℕ × LeapTable). x .1) (bad-table t e v))
-      go (no-entry v k) = sym (ap (λ (x : ℕ × LeapTable). x .1) (refuses t e v _ k refl))
-      go (taken v z) = absurd (n (sym (ap (λ (x : ℕ × LeapTable). x .0) (takes t e v z))))
+      by-test : (b : Bool) → validTable t ≡ b → (validTable t ≡ true) × (0 ≡ joinRefusal (entriesOf t) e)
+      by-test true v = (v, sym (rw v at z))
+      by-test false v = let eight : _≡_ {A = ℕ} 8 0 = rw v at z in absurd (omega arith)
 
   module _ (s : Sized t) where
     joined-grows : validTable t ≡ true → 0 ≡ joinRefusal (entriesOf t) e → Grows t e (joinedTo t e)
@@ -83,9 +94,18 @@ module _ (t : LeapTable) (e : LeapEntry) where
         }
 
     pub extension-grows : extended t e .0 ≡ 0 → Grows t e (extended t e .1)
-    extension-grows z = go decided
-      where
-        go : Decided → Grows t e (extended t e .1)
-        go (no-table v) = absurd (omega (arith, ap (λ (x : ℕ × LeapTable). x .0) (bad-table t e v) ∙ z))
-        go (no-entry v k) = absurd (k (ap (λ (x : ℕ × LeapTable). x .0) (refuses t e v _ k refl) ∙ z))
-        go (taken v r) = rw (← takes t e v r) (joined-grows v r)
+    extension-grows z = rw z (joined-grows (accepted z .0) (accepted z .1))
+
+  -- whatever gives the number and the table of the definition
+  pub extends : (answer : Taken) (after : LeapTable) → (takenIn answer, after) ≡ extended t e → Extends t e answer after
+  extends answer after is =
+      let number : takenIn answer ≡ extended t e .0 = ap (λ (x : ℕ × LeapTable). x .0) is in
+      let table : after ≡ extended t e .1 = ap (λ (x : ℕ × LeapTable). x .1) is in
+      record {
+        done = λ d s. rw table (extension-grows s (sym number ∙ ap takenIn d));
+        refused = λ why r. table ∙ refusal-keeps (λ z. number-not-zero why (sym (ap takenIn r) ∙ number ∙ z));
+      }
+
+-- so does the call by value, by its contract
+pub try-extend : (κ : _) (a : _) (x : _) (end : _) → try-extend-contract.Post κ a x end → Extends (a .0) (a .1 .0) (x .answer) (x .table)
+try-extend κ a x end post = extends (a .0) (a .1 .0) (x .answer) (x .table) post

@@ -1,19 +1,26 @@
 -- A lookup in a valid list answers by the last entry at or below the reading.
 use mathlib.Core.Path.{_≡_, ap, _∙_}
 use mathlib.Core.Bool.{true}
-use mathlib.Core.List.{List}
+use mathlib.Core.List.{List, []}
 use mathlib.Core.Option.{some}
 use Prim.Native.Nat.{ℕ, suc, _+_, _-_, _≤_, _<_}
 use native.Mathlib.Omega.{arith}
 use native.Mathlib.Decide.{decLt}
 use lib.ListN.{length, getD, getElem?}
 use lib.IntN.{pos}
-use Rattle.tables.specs.Entries.{Entry, threshold, offset, entry, valid}
-use Rattle.tables.specs.Promises.{Lookup}
+use Rattle.tables.specs.Entries.{Entry, threshold, offset, entry, valid, offsetAt}
 use Rattle.tables.proofs.FirstSlots.{some-at}
 use Rattle.tables.proofs.Neighbours.{rises-by}
 use Rattle.tables.proofs.InForce.{Reached, in-force, none-in-force}
 use Rattle.tables.proofs.Tested.{in-range, at-place}
+
+-- the offset in force at t, by the entry that gives it
+pub record Lookup (es : List Entry) (t : ℕ) : Type 0 where
+  pub none : es ≡ [] → offsetAt es t ≡ pos 19
+  pub before : (e : Entry) → getElem? es 0 ≡ some e → t < threshold e → offsetAt es t ≡ offset e
+  -- the entry at place k is at or below t, and every later one above
+  pub last : (k : ℕ) (e : Entry) → getElem? es k ≡ some e → threshold e ≤ t
+      → ((j : ℕ) (f : Entry) → k < j → getElem? es j ≡ some f → t < threshold f) → offsetAt es t ≡ offset e
 
 module _ (es : List Entry) (t : ℕ) (v : valid es ≡ true) where
   abbrev d : Entry

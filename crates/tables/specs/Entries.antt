@@ -1,13 +1,12 @@
--- Lists of leap-second entries: which are valid, which offset is in force, and how they grow.
+-- Lists of leap-second entries: which are valid, which offset is in force, and why an entry or a list is refused.
 use mathlib.Core.Bool.{Bool, true, false, cond, _&&_}
-use mathlib.Core.List.{List, [], _∷_, _++_}
+use mathlib.Core.List.{List, [], _∷_}
 use mathlib.Core.Option.{Option, none, some}
 use Prim.Native.Nat.{ℕ, _+_, _*_}
 use lib.Dec.{ltb, leb, eqb}
 use lib.ListN.{length}
 use lib.IntN.{ℤ, pos, negsuc, _+ℤ_}
 use Rattle.counts.specs.Units.{second, daySeconds}
-use Rattle.refusals.specs.Outcome.{Outcome, answered, refused}
 use Rattle.tables.specs.declared.LeapEntry.{LeapEntry}
 
 -- from the TAI reading `threshold e` on, in nanoseconds, TAI is `offset e` seconds ahead of UTC
@@ -91,18 +90,10 @@ stepRefusal p e =
     (cond (equal (offset p) (pos 2_147_483_647)) 7
     (cond (equal (offset e) (offset p +ℤ pos 1)) 0 4))
 
--- the answer where nothing is refused
-abbrev pub unless : {A : Type 0} → ℕ → A → Outcome A
-unless k a = cond (eqb k 0) (answered a) (refused k)
-
 -- why an entry cannot be joined to a list, 5, then by the last entry; an empty list takes any
 unfoldable pub joinRefusal : List Entry → Entry → ℕ
 joinRefusal [] e = 0
 joinRefusal (p ∷ ps) e = cond (leb 64 (length (p ∷ ps))) 5 (stepRefusal (lastOr p ps) e)
-
--- extension: the list with the entry joined at its end
-abbrev pub extension : List Entry → Entry → Outcome (List Entry)
-extension es e = unless (joinRefusal es e) (es ++ e ∷ [])
 
 -- the first refusal of an entry by the one before it; 0 where there is none
 unfoldable pub firstRefusal : List Entry → ℕ
@@ -110,12 +101,11 @@ firstRefusal [] = 0
 firstRefusal (p ∷ []) = 0
 firstRefusal (p ∷ e ∷ es) = cond (eqb (stepRefusal p e) 0) (firstRefusal (e ∷ es)) (stepRefusal p e)
 
--- building from a list: 6, 5, then the first entry refused
-unfoldable pub building : List Entry → Outcome (List Entry)
-building [] = refused 6
-building (e ∷ es) = cond (ltb 64 (length (e ∷ es))) (refused 5) (unless (firstRefusal (e ∷ es)) (e ∷ es))
-
 -- checking a list, which has no length limit: 6, then by neighbours; 0 where it is valid
 unfoldable pub checking : List Entry → ℕ
 checking [] = 6
 checking (e ∷ es) = firstRefusal (e ∷ es)
+
+-- why no table is built from a list: 6, 5, then by neighbours; 0 where one is
+abbrev pub buildingRefusal : List Entry → ℕ
+buildingRefusal es = cond (ltb 64 (length es)) 5 (checking es)

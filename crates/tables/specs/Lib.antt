@@ -2,4 +2,3 @@ pub mod Entries
 pub mod Slots
 pub mod Search
 pub mod Answers
-pub mod Promises

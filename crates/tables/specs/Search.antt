@@ -1,4 +1,4 @@
--- What a search by halves finds among rising thresholds.
+-- What a search by halves finds among rising thresholds. Only contracts of private functions cite it.
 use mathlib.Core.List.{List}
 use Prim.Native.Nat.{ℕ, _≤_, _<_}
 use lib.ListN.{getD}

@@ -2,13 +2,13 @@
 use mathlib.Core.Bool.{Bool, cond, _&&_}
 use mathlib.Core.List.{List, [], _∷_, _++_, map}
 use Prim.Native.Nat.{ℕ, _+_, _-_}
-use lib.Dec.{leb}
+use lib.Dec.{leb, eqb}
 use lib.ListN.{length, getD, take, set, replicate}
 use lib.IntN.{ℤ, pos}
-use Rattle.refusals.specs.Outcome.{Outcome, answered, refused}
+use Rattle.refusals.specs.Outcome.{Outcome, refused}
 use Rattle.tables.specs.declared.LeapEntry.{LeapEntry}
 use Rattle.tables.specs.declared.LeapTable.{LeapTable}
-use Rattle.tables.specs.Entries.{Entry, threshold, offset, entry, valid, extension, building}
+use Rattle.tables.specs.Entries.{Entry, threshold, offset, entry, valid, joinRefusal, buildingRefusal}
 
 -- thresholds and offsets side by side, up to the shorter length
 unfoldable pub paired : List ℕ → List ℤ → List Entry
@@ -58,18 +58,14 @@ joinedTo t e = record {
   len = t .len + 1;
 }
 
--- a refusal's number, or 0, and the table afterwards: `t` itself on a refusal
-abbrev pub grown : LeapTable → LeapEntry → Outcome (List Entry) → ℕ × LeapTable
-grown t e (answered es) = (0, joinedTo t e)
-grown t e (refused k) = (k, t)
+-- why a table cannot be extended by an entry: 8, then as its list; 0 where it can
+abbrev pub extensionRefusal : LeapTable → LeapEntry → ℕ
+extensionRefusal t e = cond (validTable t) (joinRefusal (entriesOf t) e) 8
 
+-- the refusal's number, or 0, and the table afterwards: on a refusal `t` itself
 abbrev pub extended : LeapTable → LeapEntry → ℕ × LeapTable
-extended t e = grown t e (ofValid t (extension (entriesOf t) e))
+extended t e = (extensionRefusal t e, cond (eqb (extensionRefusal t e) 0) (joinedTo t e) t)
 
--- a refusal's number, or 0, and the table built: an empty one on a refusal
-abbrev pub made : Outcome (List Entry) → ℕ × LeapTable
-made (answered es) = (0, tableOf es)
-made (refused k) = (k, tableOf [])
-
+-- the refusal's number, or 0, and the table built: on a refusal the one with no entry
 abbrev pub built : List Entry → ℕ × LeapTable
-built es = made (building es)
+built es = (buildingRefusal es, tableOf (cond (eqb (buildingRefusal es) 0) es []))

@@ -69,8 +69,8 @@ returns-3 c =
     let a = f .before .before .before .before .before .args in
     let k = c .before .before .why .given .0 .0 in
     c .unbuilt3 .ensures
-    ∙ entry-refused (paired (now (a .thresholds)) (now (a .offsets))) (numberOf k) (omega (arith, z, f .before .before .if1 .left)) (omega (arith, z, f .before .if2 .left))
-    (number-not-zero k)
+    ∙ entry-refused (paired (now (a .thresholds)) (now (a .offsets))) (omega (arith, z, f .before .before .if1 .left)) (omega (arith, z, f .before .if2 .left))
+    (numberOf k) (number-not-zero k)
     (sym (ap takenIn (c .before .before .why .given .1)) ∙ f .first-refusal .ensures .0 ∙ ap firstRefusal (all (f .before .before .before)))
 
 returns-4 : tie.Need-returns-4

@@ -1,20 +1,33 @@
--- A table and its image tell the same.
+-- Nothing is lost between a table and its image: each of the three parts comes back as it went.
 use mathlib.Core.Path.{_≡_, sym, ap, _∙_}
 use mathlib.Core.List.{List, [], _++_, map, append-assoc, append-nil}
-use Prim.Native.Nat.{ℕ, _^_}
+use Prim.Native.Nat.{ℕ, _^_, _<_}
 use native.Mathlib.Omega.{arith}
 use lib.ListN.{length, getD, take, drop, length-append, length-drop, length-map, List·getD-map}
 use lib.Seq.{take-at, drop-at, take-add, take-all}
 use lib.IntN.{pos}
 use mir.Syntax.{w32}
-use mir.Val.{Fits, toZ, ofZ}
+use mir.Val.{Fits, SFits, toZ, ofZ}
 use mir.Facts.{toZ-ofZ, ofZ-toZ, fits-ofZ}
 use Rattle.tables.specs.declared.LeapTable.{LeapTable}
-use Rattle.images.specs.Image.{numberIn, bytesOf, numbersIn, bytesOfAll, tableIn, imageOf}
-use Rattle.images.specs.Promises.{Below, Typed, NothingLost}
+use Rattle.tables.proofs.Extensions.{Sized}
+use Rattle.images.specs.Image.{numberIn, bytesOf, numbersIn, bytesOfAll, imageBytes, tableIn, imageOf}
 use Rattle.images.proofs.Fields.{bytes-count}
-use Rattle.images.proofs.Inverses.{undone, below-drop, number-of-bytes, bytes-of-part, numbers-of-bytes, bytes-of-numbers, numbers-below}
+use Rattle.images.proofs.Inverses.{Below, undone, below-drop, number-of-bytes, bytes-of-part, numbers-of-bytes, bytes-of-numbers, numbers-below}
 use Rattle.images.proofs.Whole.{tableOfParts, threshold-bytes, image-count}
+
+-- a table whose arrays have 64 slots each and whose numbers fit their types
+pub record Typed (t : LeapTable) : Type 0 where
+  pub sized : Sized t
+  pub thresholds : Below (2 ^ 64) (t .thresholds)
+  pub offsets : (i : ℕ) → SFits w32 (getD (t .offsets) i (pos 0))
+  pub len : t .len < 2 ^ 64
+
+-- nothing is lost on the way to bytes and back, nor on the way from 776 bytes to a table and back
+pub record NothingLost : Type 0 where
+  pub table : (t : LeapTable) → Typed t → tableIn (imageOf t) ≡ t
+  pub image : (b : List ℕ) → Below 256 b → length b ≡ imageBytes → imageOf (tableIn b) ≡ b
+  pub size : (t : LeapTable) → Sized t → length (imageOf t) ≡ imageBytes
 
 module _ (t : LeapTable) (h : Typed t) where
   abbrev front : List ℕ
