@@ -12,3 +12,4 @@ pub mod Asked
 pub mod Agreement
 pub mod Stated
 pub mod Calls
+pub mod GrowsInPlace
