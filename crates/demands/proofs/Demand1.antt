@@ -16,11 +16,11 @@ use Rattle.calendar.specs.Calendar.{on}
 use Rattle.calendar.specs.Dates.{daysFromUnix, daysUntil, secondsUntil, nanosUntil}
 use Rattle.civil.specs.Fields.{countAt}
 use Rattle.tables.specs.Entries.{Entry, entry, offsetAt, currentOffset, lastUpdate}
-use Rattle.tables.specs.Slots.{paired, entriesOf, ofValid, tableOf, extended, built}
+use Rattle.tables.specs.Slots.{paired, tableOf, extended, built}
 use Rattle.tables.specs.declared.LeapTable.{LeapTable}
 use Rattle.tables.proofs.Buildings.{building-refused}
 use Rattle.tables.proofs.Extensions.{refusal-keeps}
-use Rattle.images.specs.Image.{sized, tableIn, tableOfImage, imageOf, stored, entriesIn, builtFrom}
+use Rattle.images.specs.Image.{sized, tableIn, byImage, imageOf, stored, entriesIn, builtFrom}
 use Rattle.conversions.specs.Conversions.{gpsToUtc, utcToGps, glonassToUtc, utcToGlonass, glonassToGps, gpsToGlonass, unixToGps, gpsToUnix}
 use Rattle.builtin.specs.Builtin.{builtin}
 use Rattle.images.proofs.Whole.{of-size, not-of-size}
@@ -33,10 +33,6 @@ use Rattle.demands.specs.RefusalsLeave.{OfScales, OfCivilTimes, OfConver
 zeros-beside : {A : Type 0} {zeros value : A} {number : ℕ} (o : Outcome A) → Gives zeros o number value → number ≢ 0 → value ≡ zeros
 zeros-beside (answered a) gives not-done = absurd (not-done (gives .0))
 zeros-beside (refused k) gives not-done = gives .1
-
--- what is given by the table of an image: 8 where it is not valid
-abbrev by-image : {A : Type 0} → List ℕ → (List Entry → Outcome A) → Outcome A
-by-image b answer = ofValid (tableOfImage b) (answer (entriesOf (tableOfImage b)))
 
 pub of-scales : OfScales
 of-scales = record {
@@ -85,22 +81,22 @@ of-conversions = record {
   builtin-gps-to-glonass = λ κ a k e p n. zeros-beside (gpsToGlonass builtin (a .0)) p n;
   builtin-gps-from-unix-seconds = λ κ a k e p n. zeros-beside (unixToGps builtin (a .0)) p n;
   builtin-gps-as-unix-seconds = λ κ a k e p n. zeros-beside (gpsToUnix builtin (a .0)) p n;
-  gps-to-utc = λ κ a k e p n. zeros-beside (by-image (now (a .1 .0)) (λ es. gpsToUtc es (a .0))) p n;
-  utc-to-gps = λ κ a k e p n. zeros-beside (by-image (now (a .1 .0)) (λ es. utcToGps es (a .0))) p n;
-  glonass-to-gps = λ κ a k e p n. zeros-beside (by-image (now (a .1 .0)) (λ es. glonassToGps es (a .0))) p n;
-  gps-to-glonass = λ κ a k e p n. zeros-beside (by-image (now (a .1 .0)) (λ es. gpsToGlonass es (a .0))) p n;
-  gps-from-unix-seconds = λ κ a k e p n. zeros-beside (by-image (now (a .1 .0)) (λ es. unixToGps es (a .0))) p n;
-  gps-as-unix-seconds = λ κ a k e p n. zeros-beside (by-image (now (a .1 .0)) (λ es. gpsToUnix es (a .0))) p n;
+  gps-to-utc = λ κ a k e p n. zeros-beside (byImage (now (a .1 .0)) (λ es. gpsToUtc es (a .0))) p n;
+  utc-to-gps = λ κ a k e p n. zeros-beside (byImage (now (a .1 .0)) (λ es. utcToGps es (a .0))) p n;
+  glonass-to-gps = λ κ a k e p n. zeros-beside (byImage (now (a .1 .0)) (λ es. glonassToGps es (a .0))) p n;
+  gps-to-glonass = λ κ a k e p n. zeros-beside (byImage (now (a .1 .0)) (λ es. gpsToGlonass es (a .0))) p n;
+  gps-from-unix-seconds = λ κ a k e p n. zeros-beside (byImage (now (a .1 .0)) (λ es. unixToGps es (a .0))) p n;
+  gps-as-unix-seconds = λ κ a k e p n. zeros-beside (byImage (now (a .1 .0)) (λ es. gpsToUnix es (a .0))) p n;
 }
 
 pub of-read-tables : OfReadTables
 of-read-tables = record {
-  len = λ κ a k e p n. zeros-beside (by-image (now (a .0)) (λ es. answered (length es))) p n;
-  is-empty = λ κ a k e p n. zeros-beside (changed bit (by-image (now (a .0)) (λ es. answered (eqb (length es) 0)))) p n;
-  entry-at = λ κ a k e p n. zeros-beside (changed foundEntry (by-image (now (a .0)) (λ es. answered (getElem? es (a .1 .0))))) p n;
-  last-update = λ κ a k e p n. zeros-beside (changed foundCount (by-image (now (a .0)) (λ es. answered (lastUpdate es)))) p n;
-  current-tai-minus-utc = λ κ a k e p n. zeros-beside (by-image (now (a .0)) (λ es. answered (currentOffset es))) p n;
-  tai-minus-utc-at = λ κ a k e p n. zeros-beside (by-image (now (a .0)) (λ es. answered (offsetAt es (a .1 .0)))) p n;
+  len = λ κ a k e p n. zeros-beside (byImage (now (a .0)) (λ es. answered (length es))) p n;
+  is-empty = λ κ a k e p n. zeros-beside (changed bit (byImage (now (a .0)) (λ es. answered (eqb (length es) 0)))) p n;
+  entry-at = λ κ a k e p n. zeros-beside (changed foundEntry (byImage (now (a .0)) (λ es. answered (getElem? es (a .1 .0))))) p n;
+  last-update = λ κ a k e p n. zeros-beside (changed foundCount (byImage (now (a .0)) (λ es. answered (lastUpdate es)))) p n;
+  current-tai-minus-utc = λ κ a k e p n. zeros-beside (byImage (now (a .0)) (λ es. answered (currentOffset es))) p n;
+  tai-minus-utc-at = λ κ a k e p n. zeros-beside (byImage (now (a .0)) (λ es. answered (offsetAt es (a .1 .0)))) p n;
 }
 
 pub of-read-lists : OfReadLists

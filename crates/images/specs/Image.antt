@@ -6,8 +6,9 @@ use lib.Dec.{eqb}
 use lib.ListN.{length, take, drop}
 use mir.Syntax.{w32}
 use mir.Val.{toZ, ofZ}
+use Rattle.refusals.specs.Outcome.{Outcome}
 use Rattle.tables.specs.Entries.{Entry, entry}
-use Rattle.tables.specs.Slots.{tableOf, built, extended}
+use Rattle.tables.specs.Slots.{entriesOf, ofValid, tableOf, built, extended}
 use Rattle.tables.specs.declared.LeapTable.{LeapTable}
 
 -- the number that bytes hold
@@ -70,6 +71,10 @@ noTable = record { thresholds = tableOf [] .thresholds; offsets = tableOf [] .of
 -- the table of an image; bytes of another size are no valid table
 abbrev pub tableOfImage : List ℕ → LeapTable
 tableOfImage b = cond (sized b) (tableIn b) noTable
+
+-- what a call answers by the table of an image: 8 where the bytes are no image or hold no valid table
+abbrev pub byImage : {A : Type 0} → List ℕ → (List Entry → Outcome A) → Outcome A
+byImage b answer = ofValid (tableOfImage b) (answer (entriesOf (tableOfImage b)))
 
 -- 0 and the table of an image, or 8 and the empty table
 abbrev pub imageRead : List ℕ → ℕ × LeapTable

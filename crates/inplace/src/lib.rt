@@ -8,9 +8,9 @@ ghost use lib.ListN.{length, getElem?};
 ghost use Rattle.refusals.specs.Outcome.{answered};
 ghost use Rattle.scales.specs.Answers.{gpsIn, utcIn, glonassIn};
 ghost use Rattle.tables.specs.Entries.{offsetAt, currentOffset, lastUpdate};
-ghost use Rattle.tables.specs.Slots.{entriesOf, validTable, ofValid};
+ghost use Rattle.tables.specs.Slots.{validTable};
 ghost use Rattle.tables.specs.Answers.{lengthIn, emptyIn, entryIn, updateIn, offsetIn};
-ghost use Rattle.images.specs.Image.{tableOfImage};
+ghost use Rattle.images.specs.Image.{tableOfImage, byImage};
 ghost use Rattle.conversions.specs.Conversions.{gpsToUtc, utcToGps, glonassToGps, gpsToGlonass, unixToGps, gpsToUnix};
 ghost use Rattle.conversions.specs.Answers.{unixIn};
 use crate::inner::lookup;
@@ -45,7 +45,7 @@ fn holds_table(image: &[u8]) -> bool
 
 // The number of entries.
 pub fn len(image: &[u8]) -> LengthAnswer
-    ensures { λ r. ⌜ lengthIn r ≡ ofValid (tableOfImage (now (image .entry))) (answered (length (entriesOf (tableOfImage (now (image .entry)))))) ⌝ }
+    ensures { λ r. ⌜ lengthIn r ≡ byImage (now (image .entry)) (λ es. answered (length es)) ⌝ }
 {
     if holds_table(image) {
         LengthAnswer::Length(slots::len(image))
@@ -55,7 +55,7 @@ pub fn len(image: &[u8]) -> LengthAnswer
 }
 
 pub fn is_empty(image: &[u8]) -> EmptyAnswer
-    ensures { λ r. ⌜ emptyIn r ≡ ofValid (tableOfImage (now (image .entry))) (answered (eqb (length (entriesOf (tableOfImage (now (image .entry))))) 0)) ⌝ }
+    ensures { λ r. ⌜ emptyIn r ≡ byImage (now (image .entry)) (λ es. answered (eqb (length es) 0)) ⌝ }
 {
     if holds_table(image) {
         EmptyAnswer::Empty(slots::len(image) == 0)
@@ -66,7 +66,7 @@ pub fn is_empty(image: &[u8]) -> EmptyAnswer
 
 // The entry at a place, counted from 0.
 pub fn entry_at(image: &[u8], place: usize) -> EntryAnswer
-    ensures { λ r. ⌜ entryIn r ≡ ofValid (tableOfImage (now (image .entry))) (answered (getElem? (entriesOf (tableOfImage (now (image .entry)))) place)) ⌝ }
+    ensures { λ r. ⌜ entryIn r ≡ byImage (now (image .entry)) (λ es. answered (getElem? es place)) ⌝ }
 {
     if !holds_table(image) {
         return EntryAnswer::Refused(Refusal::BadTable);
@@ -80,7 +80,7 @@ pub fn entry_at(image: &[u8], place: usize) -> EntryAnswer
 
 // The threshold of the last event: nothing where there is at most the first entry.
 pub fn last_update(image: &[u8]) -> UpdateAnswer
-    ensures { λ r. ⌜ updateIn r ≡ ofValid (tableOfImage (now (image .entry))) (answered (lastUpdate (entriesOf (tableOfImage (now (image .entry)))))) ⌝ }
+    ensures { λ r. ⌜ updateIn r ≡ byImage (now (image .entry)) (λ es. answered (lastUpdate es)) ⌝ }
 {
     if !holds_table(image) {
         return UpdateAnswer::Refused(Refusal::BadTable);
@@ -95,7 +95,7 @@ pub fn last_update(image: &[u8]) -> UpdateAnswer
 
 // The offset of the last entry, or 19.
 pub fn current_tai_minus_utc(image: &[u8]) -> OffsetAnswer
-    ensures { λ r. ⌜ offsetIn r ≡ ofValid (tableOfImage (now (image .entry))) (answered (currentOffset (entriesOf (tableOfImage (now (image .entry)))))) ⌝ }
+    ensures { λ r. ⌜ offsetIn r ≡ byImage (now (image .entry)) (λ es. answered (currentOffset es)) ⌝ }
 {
     if !holds_table(image) {
         return OffsetAnswer::Refused(Refusal::BadTable);
@@ -110,7 +110,7 @@ pub fn current_tai_minus_utc(image: &[u8]) -> OffsetAnswer
 
 // The offset in force at a TAI reading.
 pub fn tai_minus_utc_at(image: &[u8], tai: Tai) -> OffsetAnswer
-    ensures { λ r. ⌜ offsetIn r ≡ ofValid (tableOfImage (now (image .entry))) (answered (offsetAt (entriesOf (tableOfImage (now (image .entry)))) (tai .0))) ⌝ }
+    ensures { λ r. ⌜ offsetIn r ≡ byImage (now (image .entry)) (λ es. answered (offsetAt es (tai .0))) ⌝ }
 {
     if image.len() != IMAGE_BYTES {
         return OffsetAnswer::Refused(Refusal::BadTable);
@@ -120,7 +120,7 @@ pub fn tai_minus_utc_at(image: &[u8], tai: Tai) -> OffsetAnswer
 
 // Refuses 8, then 1, 9, 1: the table, the TAI reading, the offset, the result.
 pub fn gps_to_utc(gps: Gps, image: &[u8]) -> UtcAnswer
-    ensures { λ r. ⌜ utcIn r ≡ ofValid (tableOfImage (now (image .entry))) (gpsToUtc (entriesOf (tableOfImage (now (image .entry)))) (gps .0)) ⌝ }
+    ensures { λ r. ⌜ utcIn r ≡ byImage (now (image .entry)) (λ es. gpsToUtc es (gps .0)) ⌝ }
 {
     if image.len() != IMAGE_BYTES {
         return UtcAnswer::Refused(Refusal::BadTable);
@@ -130,7 +130,7 @@ pub fn gps_to_utc(gps: Gps, image: &[u8]) -> UtcAnswer
 
 // Refuses 8, then 9, 1: the table, the offset, the result. Where a UTC count repeats it is the first of two.
 pub fn utc_to_gps(utc: Utc, image: &[u8]) -> GpsAnswer
-    ensures { λ r. ⌜ gpsIn r ≡ ofValid (tableOfImage (now (image .entry))) (utcToGps (entriesOf (tableOfImage (now (image .entry)))) (utc .0)) ⌝ }
+    ensures { λ r. ⌜ gpsIn r ≡ byImage (now (image .entry)) (λ es. utcToGps es (utc .0)) ⌝ }
 {
     if image.len() != IMAGE_BYTES {
         return GpsAnswer::Refused(Refusal::BadTable);
@@ -140,7 +140,7 @@ pub fn utc_to_gps(utc: Utc, image: &[u8]) -> GpsAnswer
 
 // By way of UTC.
 pub fn glonass_to_gps(glonass: Glonass, image: &[u8]) -> GpsAnswer
-    ensures { λ r. ⌜ gpsIn r ≡ ofValid (tableOfImage (now (image .entry))) (glonassToGps (entriesOf (tableOfImage (now (image .entry)))) (glonass .0)) ⌝ }
+    ensures { λ r. ⌜ gpsIn r ≡ byImage (now (image .entry)) (λ es. glonassToGps es (glonass .0)) ⌝ }
 {
     if image.len() != IMAGE_BYTES {
         return GpsAnswer::Refused(Refusal::BadTable);
@@ -150,7 +150,7 @@ pub fn glonass_to_gps(glonass: Glonass, image: &[u8]) -> GpsAnswer
 
 // By way of UTC.
 pub fn gps_to_glonass(gps: Gps, image: &[u8]) -> GlonassAnswer
-    ensures { λ r. ⌜ glonassIn r ≡ ofValid (tableOfImage (now (image .entry))) (gpsToGlonass (entriesOf (tableOfImage (now (image .entry)))) (gps .0)) ⌝ }
+    ensures { λ r. ⌜ glonassIn r ≡ byImage (now (image .entry)) (λ es. gpsToGlonass es (gps .0)) ⌝ }
 {
     if image.len() != IMAGE_BYTES {
         return GlonassAnswer::Refused(Refusal::BadTable);
@@ -160,7 +160,7 @@ pub fn gps_to_glonass(gps: Gps, image: &[u8]) -> GlonassAnswer
 
 // The GPS count of Unix seconds, by way of UTC.
 pub fn gps_from_unix_seconds(seconds: i64, image: &[u8]) -> GpsAnswer
-    ensures { λ r. ⌜ gpsIn r ≡ ofValid (tableOfImage (now (image .entry))) (unixToGps (entriesOf (tableOfImage (now (image .entry)))) seconds) ⌝ }
+    ensures { λ r. ⌜ gpsIn r ≡ byImage (now (image .entry)) (λ es. unixToGps es seconds) ⌝ }
 {
     if image.len() != IMAGE_BYTES {
         return GpsAnswer::Refused(Refusal::BadTable);
@@ -170,7 +170,7 @@ pub fn gps_from_unix_seconds(seconds: i64, image: &[u8]) -> GpsAnswer
 
 // The whole Unix seconds of a GPS count, by way of UTC.
 pub fn gps_as_unix_seconds(gps: Gps, image: &[u8]) -> UnixAnswer
-    ensures { λ r. ⌜ unixIn r ≡ ofValid (tableOfImage (now (image .entry))) (gpsToUnix (entriesOf (tableOfImage (now (image .entry)))) (gps .0)) ⌝ }
+    ensures { λ r. ⌜ unixIn r ≡ byImage (now (image .entry)) (λ es. gpsToUnix es (gps .0)) ⌝ }
 {
     if image.len() != IMAGE_BYTES {
         return UnixAnswer::Refused(Refusal::BadTable);

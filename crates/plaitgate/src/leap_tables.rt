@@ -7,8 +7,8 @@ ghost use lib.IntN.{pos};
 ghost use lib.ListN.{length, getElem?};
 ghost use Rattle.refusals.specs.Outcome.{Gives, answered};
 ghost use Rattle.tables.specs.Entries.{entry, offsetAt, currentOffset, lastUpdate};
-ghost use Rattle.tables.specs.Slots.{entriesOf, ofValid, tableOf};
-ghost use Rattle.images.specs.Image.{tableOfImage, imageWritten, imageExtended};
+ghost use Rattle.tables.specs.Slots.{tableOf};
+ghost use Rattle.images.specs.Image.{byImage, imageWritten, imageExtended};
 ghost use Rattle.builtin.specs.Builtin.{builtin};
 ghost use Rattle.plaitgate.specs.Tables.{leaves, imageBuilt, changed, bit, foundAs, foundEntry, foundCount};
 use crate::give;
@@ -58,14 +58,14 @@ pub extern "C" fn plaitgate_table_try_extend(
 
 #[no_mangle]
 pub extern "C" fn plaitgate_table_len(image: &[u8], len: &mut u64) -> u32
-    ensures { λ r. ⌜ Gives 0 (ofValid (tableOfImage (now (image .entry))) (answered (length (entriesOf (tableOfImage (now (image .entry))))))) r (now (len .exit)) ⌝ }
+    ensures { λ r. ⌜ Gives 0 (byImage (now (image .entry)) (λ es. answered (length es))) r (now (len .exit)) ⌝ }
 {
     give::length(inplace::len(image), len)
 }
 
 #[no_mangle]
 pub extern "C" fn plaitgate_table_is_empty(image: &[u8], yes: &mut u8) -> u32
-    ensures { λ r. ⌜ Gives 0 (changed bit (ofValid (tableOfImage (now (image .entry))) (answered (eqb (length (entriesOf (tableOfImage (now (image .entry))))) 0)))) r (now (yes .exit)) ⌝ }
+    ensures { λ r. ⌜ Gives 0 (changed bit (byImage (now (image .entry)) (λ es. answered (eqb (length es) 0)))) r (now (yes .exit)) ⌝ }
 {
     give::emptiness(inplace::is_empty(image), yes)
 }
@@ -78,7 +78,7 @@ pub extern "C" fn plaitgate_table_entry_at(
     tai_nanos: &mut u64,
     tai_minus_utc: &mut i32,
 ) -> u32
-    ensures { λ r. ⌜ Gives (foundEntry none) (changed foundEntry (ofValid (tableOfImage (now (image .entry))) (answered (getElem? (entriesOf (tableOfImage (now (image .entry)))) place)))) r (foundAs (now (found .exit)) (entry (now («tai_nanos» .exit)) (now («tai_minus_utc» .exit)))) ⌝ }
+    ensures { λ r. ⌜ Gives (foundEntry none) (changed foundEntry (byImage (now (image .entry)) (λ es. answered (getElem? es place)))) r (foundAs (now (found .exit)) (entry (now («tai_nanos» .exit)) (now («tai_minus_utc» .exit)))) ⌝ }
 {
     give::entry(
         inplace::entry_at(image, place as usize),
@@ -90,21 +90,21 @@ pub extern "C" fn plaitgate_table_entry_at(
 
 #[no_mangle]
 pub extern "C" fn plaitgate_table_last_update(image: &[u8], found: &mut u8, tai: &mut u64) -> u32
-    ensures { λ r. ⌜ Gives (foundCount none) (changed foundCount (ofValid (tableOfImage (now (image .entry))) (answered (lastUpdate (entriesOf (tableOfImage (now (image .entry)))))))) r (foundAs (now (found .exit)) (now (tai .exit))) ⌝ }
+    ensures { λ r. ⌜ Gives (foundCount none) (changed foundCount (byImage (now (image .entry)) (λ es. answered (lastUpdate es)))) r (foundAs (now (found .exit)) (now (tai .exit))) ⌝ }
 {
     give::update(inplace::last_update(image), found, tai)
 }
 
 #[no_mangle]
 pub extern "C" fn plaitgate_table_current_tai_minus_utc(image: &[u8], offset: &mut i32) -> u32
-    ensures { λ r. ⌜ Gives (pos 0) (ofValid (tableOfImage (now (image .entry))) (answered (currentOffset (entriesOf (tableOfImage (now (image .entry))))))) r (now (offset .exit)) ⌝ }
+    ensures { λ r. ⌜ Gives (pos 0) (byImage (now (image .entry)) (λ es. answered (currentOffset es))) r (now (offset .exit)) ⌝ }
 {
     give::offset(inplace::current_tai_minus_utc(image), offset)
 }
 
 #[no_mangle]
 pub extern "C" fn plaitgate_table_tai_minus_utc_at(image: &[u8], tai: u64, offset: &mut i32) -> u32
-    ensures { λ r. ⌜ Gives (pos 0) (ofValid (tableOfImage (now (image .entry))) (answered (offsetAt (entriesOf (tableOfImage (now (image .entry)))) tai))) r (now (offset .exit)) ⌝ }
+    ensures { λ r. ⌜ Gives (pos 0) (byImage (now (image .entry)) (λ es. answered (offsetAt es tai))) r (now (offset .exit)) ⌝ }
 {
     give::offset(inplace::tai_minus_utc_at(image, Tai(tai)), offset)
 }

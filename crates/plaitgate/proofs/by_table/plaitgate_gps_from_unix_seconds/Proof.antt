@@ -4,8 +4,7 @@ use mathlib.Core.Path.{ap, _∙_}
 use denote.Ref.{now}
 use lib.IntN.{ℤ}
 use mir.Facts.{toZ-ofZ}
-use Rattle.tables.specs.Slots.{entriesOf, ofValid}
-use Rattle.images.specs.Image.{tableOfImage}
+use Rattle.images.specs.Image.{byImage}
 use Rattle.conversions.specs.Conversions.{unixToGps}
 use Rattle.refusals.proofs.Given.{gives-same}
 use Rattle.plaitgate.proofs.by_table.plaitgate_gps_from_unix_seconds.Statement.{statement}
@@ -20,7 +19,7 @@ gps-count-requires c κs = search needs
 returns : tie.Need-returns
 returns c =
     let s = c .before .before .before .before in
-    gives-same 0 (c .before .before .gps-from-unix-seconds .ensures ∙ ap (λ (z : ℤ). ofValid (tableOfImage (now (s .args .image))) (unixToGps (entriesOf (tableOfImage (now (s .args .image)))) z)) (toZ-ofZ (s .fits .seconds))) (c .gps-count .ensures)
+    gives-same 0 (c .before .before .gps-from-unix-seconds .ensures ∙ ap (λ (z : ℤ). byImage (now (s .args .image)) (λ es. unixToGps es z)) (toZ-ofZ (s .fits .seconds))) (c .gps-count .ensures)
 
 pub plaitgate-gps-from-unix-seconds-spec : {M : Type 1} → statement M
 plaitgate-gps-from-unix-seconds-spec =
