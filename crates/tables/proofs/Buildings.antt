@@ -63,7 +63,8 @@ module _ (es : List Entry) where
       go (yes l) = let five : _≡_ {A = ℕ} 5 0 = rw (lt-ltb 64 (length es) l) at z in absurd (omega arith)
       go (no l) =
           let few : length es ≤ 64 = omega (arith, l) in
-          record { list = table-list es; size = refl; valid = table-valid es few (checked-valid es (rw (le-ltb 64 (length es) few) at z)) }
+          let passes : checking es ≡ 0 = rw (le-ltb 64 (length es) few) at z in
+          record { list = table-list es; size = refl; valid = table-valid es few (checked-valid es passes) }
 
   -- whatever gives the number and the table of the definition
   pub makes : (answer : Taken) (table : LeapTable) → (takenIn answer, table) ≡ built es → Makes es answer table
@@ -75,6 +76,7 @@ module _ (es : List Entry) where
         refused = λ why r. made ∙ building-refused (λ z. number-not-zero why (sym (ap takenIn r) ∙ number ∙ z));
       }
 
--- so does the call, by its contract
-pub from-lists : (κ : _) (a : _) (x : _) (end : _) → from-lists-contract.Post κ a x end → Makes (paired (now (a .0)) (now (a .1 .0))) (x .answer) (x .table)
+-- the call does, by its contract
+pub from-lists : (κ : _) (a : _) (x : _) (end : _) → from-lists-contract.Post κ a x end
+    → Makes (paired (now (a .0)) (now (a .1 .0))) (x .answer) (x .table)
 from-lists κ a x end post = makes (paired (now (a .0)) (now (a .1 .0))) (x .answer) (x .table) post

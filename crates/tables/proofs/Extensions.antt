@@ -1,4 +1,5 @@
--- An accepted extension joins its entry to the list, moves no other slot and keeps the table valid; a refused one keeps the table.
+-- An accepted extension joins its entry to the list and moves no other slot, since only the slot at the length is set.
+-- A refused one keeps the table.
 use mathlib.Core.Path.{_≡_, refl, sym, ap, _∙_}
 use mathlib.Core.Bool.{Bool, true, false}
 use mathlib.Core.List.{List, [], _∷_, _++_}
@@ -30,7 +31,7 @@ pub record Sized (t : LeapTable) : Type 0 where
   pub thresholds : length (t .thresholds) ≡ 64
   pub offsets : length (t .offsets) ≡ 64
 
--- the table after an accepted extension: the old list with the entry joined, its length that list's length, no other slot moved
+-- the table after an accepted extension: the old list with the entry joined, its length, no other slot moved
 pub record Grows (t : LeapTable) (e : LeapEntry) (after : LeapTable) : Type 0 where
   pub list : entriesOf after ≡ entriesOf t ++ e ∷ []
   pub size : after .len ≡ length (entriesOf t ++ e ∷ [])
@@ -38,7 +39,7 @@ pub record Grows (t : LeapTable) (e : LeapEntry) (after : LeapTable) : Type 0 wh
   pub offsets : (i : ℕ) → (i ≡ t .len → ⊥) → getD (after .offsets) i (pos 0) ≡ getD (t .offsets) i (pos 0)
   pub valid : validTable after ≡ true
 
--- what an extension leaves by its answer: where it is done, the table grown by the entry; where it is refused, the table itself
+-- what an extension leaves by its answer: done, the table grown by the entry; refused, the table itself
 pub record Extends (t : LeapTable) (e : LeapEntry) (answer : Taken) (after : LeapTable) : Type 0 where
   pub done : answer ≡ taken.Done → Sized t → Grows t e after
   pub refused : (why : Refusal) → answer ≡ taken.Refused why → after ≡ t
@@ -106,6 +107,7 @@ module _ (t : LeapTable) (e : LeapEntry) where
         refused = λ why r. table ∙ refusal-keeps (λ z. number-not-zero why (sym (ap takenIn r) ∙ number ∙ z));
       }
 
--- so does the call by value, by its contract
-pub try-extend : (κ : _) (a : _) (x : _) (end : _) → try-extend-contract.Post κ a x end → Extends (a .0) (a .1 .0) (x .answer) (x .table)
+-- the call by value does, by its contract
+pub try-extend : (κ : _) (a : _) (x : _) (end : _) → try-extend-contract.Post κ a x end
+    → Extends (a .0) (a .1 .0) (x .answer) (x .table)
 try-extend κ a x end post = extends (a .0) (a .1 .0) (x .answer) (x .table) post

@@ -68,8 +68,11 @@ valid-tested es = (is, if)
     is : valid es ≡ true → Valid es
     is v =
         let tests : AtEach (λ p e. (ltb (threshold p) (threshold e) ≡ true) × (equal (offset e) (offset p +ℤ pos 1) ≡ true)) es =
-        λ k p e h h′. both (ltb (threshold p) (threshold e)) (equal (offset e) (offset p +ℤ pos 1)) (passes follows es v k p e h h′) in
-        record { rises = λ k p e h h′. ltb-true _ _ (tests k p e h h′ .0); by-one = λ k p e h h′. equal-true _ _ (tests k p e h h′ .1) }
+        λ k p e h h′. both _ _ (passes follows es v k p e h h′) in
+        record {
+          rises = λ k p e h h′. ltb-true _ _ (tests k p e h h′ .0);
+          by-one = λ k p e h h′. equal-true _ _ (tests k p e h h′ .1);
+        }
 
     if : Valid es → valid es ≡ true
     if v = every follows es (λ k p e h h′. rw (lt-ltb _ _ (v .rises k p e h h′), equal-yes _ _ (v .by-one k p e h h′)))
