@@ -1,4 +1,4 @@
--- The four statements speak of counts of 64 bits alone: what answers the same on those keeps them.
+-- `TwoInstants` speaks of counts of 64 bits alone, so it holds of whatever answers the same on those.
 use mathlib.Core.Path.{_≡_, sym, _∙_}
 use mathlib.Core.List.{List}
 use Prim.Native.Nat.{ℕ, _^_, _<_}
@@ -8,7 +8,7 @@ use Rattle.tables.specs.Entries.{Entry}
 use Rattle.demands.specs.TwoInstants.{Converts, TwoInstants}
 
 converts-too : {f f′ : ℕ → Outcome ℕ} → ((g : ℕ) → g < 2 ^ 64 → f g ≡ f′ g) → {g u : ℕ} → Converts f g u → Converts f′ g u
-converts-too same {g} c = record { count = c .count; gives = sym (same g (omega (arith, c .count))) ∙ c .gives }
+converts-too same {g} (count, gives) = (count, sym (same g count) ∙ gives)
 
 module _ (es : List Entry) {there there′ back back′ : ℕ → Outcome ℕ}
     (to : (g : ℕ) → g < 2 ^ 64 → there′ g ≡ there g) (from : (u : ℕ) → u < 2 ^ 64 → back′ u ≡ back u) where
@@ -23,11 +23,8 @@ module _ (es : List Entry) {there there′ back back′ : ℕ → Outcome ℕ}
     refused-exactly = λ u m.
         let (none, only) = t .refused-exactly u m in
         (λ (k, e) g c. none (k, sym (from u m) ∙ e) g (again c), λ n. let (k, e) = only (λ g c. n g (here c)) in (k, from u m ∙ e));
-    answers-the-earliest = λ u g m.
-        let (is, only) = t .answers-the-earliest u g m in (
-          λ e. let i = is (sym (from u m) ∙ e) in record { converts = here (i .converts); first = λ g′ c. i .first g′ (again c) },
-          λ i. from u m ∙ only (record { converts = again (i .converts); first = λ g′ c. i .first g′ (here c) }),
-        );
+    the-earliest = λ u g m e g′ c. t .the-earliest u g m (sym (from u m) ∙ e) g′ (again c);
+    converts-back = λ u g m e. here (t .converts-back u g m (sym (from u m) ∙ e));
     shared-exactly = λ g₁ g₂ u₁ u₂ c₁ c₂. t .shared-exactly g₁ g₂ u₁ u₂ (again c₁) (again c₂);
     at-most-two = λ g₁ g₂ g₃ u c₁ c₂ c₃. t .at-most-two g₁ g₂ g₃ u (again c₁) (again c₂) (again c₃);
   }

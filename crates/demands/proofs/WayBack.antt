@@ -1,7 +1,7 @@
 -- The way back over a regular list: a third lookup would find what the second found, so the answer is the earliest count; and two counts that share
 -- a UTC count have one threshold between them, so they are one second apart.
 use mathlib.Core.Path.{_≡_, ap, _∙_, subst}
-use mathlib.Core.Logic.{_≢_}
+use mathlib.Core.Logic.{_↔_, _≢_}
 use mathlib.Core.Bool.{true}
 use mathlib.Core.List.{List}
 use Prim.Native.Nat.{ℕ, _+_, _*_, _-_, _^_, _≤_, _<_}
@@ -12,7 +12,7 @@ use Rattle.refusals.specs.Outcome.{Outcome, answered, refused}
 use Rattle.counts.specs.Units.{second}
 use Rattle.tables.specs.Entries.{Entry, regular}
 use Rattle.conversions.specs.Conversions.{E, gpsToUtc, utcToGps}
-use Rattle.demands.specs.TwoInstants.{Converts, Earliest, Refused, RefusedExactly, AnswersTheEarliest, SharedExactly, AtMostTwo, TwoInstants}
+use Rattle.demands.specs.TwoInstants.{Converts, InFirstSecond, TwoInstants}
 use Rattle.tables.proofs.Passed.{Between}
 use Rattle.demands.proofs.LeapSeconds.{LeapSeconds, leaps, counted}
 use Rattle.demands.proofs.OnNaturals.{tai, Reads, to-utc, from-gps, before-E, from-E, a, b}
@@ -36,7 +36,7 @@ module _ (es : List Entry) (k : ℕ → ℕ) (f : LeapSeconds es k) where
   There g u = Converts (gpsToUtc es) g u
 
   reads : {g u : ℕ} → There g u → Reads es k f g u
-  reads {g} {u} c = from-gps es k f g u (c .gives)
+  reads {g} {u} c = from-gps es k f g u (c .1)
 
   -- no count converts to a UTC count before E
   not-before-E : (g u : ℕ) → There g u → E ≤ u
@@ -69,47 +69,44 @@ module _ (es : List Entry) (k : ℕ → ℕ) (f : LeapSeconds es k) where
         go (no h) few up =
             omega (arith, h, f .rises next (tai back) (omega arith), f .one-in-a-day first (tai back) (omega arith))
 
-    earliest : Earliest (gpsToUtc es) back u
-    earliest =
+    -- it converts to u
+    comes-back : There back u
+    comes-back =
         let few = f .few next in
-        record {
-          converts = record {
-            count = omega arith;
-            gives = to-utc es k f back u (record { tai-fits = omega arith; utc-fits = m; exact = omega (arith, settled) });
-          };
-          first = λ g c.
-              let r = reads c in
-              let from-first = f .rises first (tai g) (omega (arith, r .exact)) in
-              let from-next = f .rises next (tai g) (omega (arith, r .exact)) in
-              omega (arith, r .exact);
-        }
+        (omega arith, to-utc es k f back u (record { tai-fits = omega arith; utc-fits = m; exact = omega (arith, settled) }))
 
-  answered-from-E : (u : ℕ) → E ≤ u → u < 2 ^ 64 → (g : ℕ) × (utcToGps es u ≡ answered g) × Earliest (gpsToUtc es) g u
-  answered-from-E u l m = (back u l m, from-E es k f u l m, earliest u l m)
+    -- and no earlier count does
+    first-of-all : (g : ℕ) → There g u → back ≤ g
+    first-of-all g c =
+        let r = reads c in
+        let few = f .few next in
+        let from-first = f .rises first (tai g) (omega (arith, r .exact)) in
+        let from-next = f .rises next (tai g) (omega (arith, r .exact)) in
+        omega (arith, r .exact)
 
-  refused-exactly : RefusedExactly (gpsToUtc es) (utcToGps es)
+  refused-exactly : (u : ℕ) → u < 2 ^ 64 → ((n : ℕ) × (utcToGps es u ≡ refused n)) ↔ ((g : ℕ) → There g u → ⊥)
   refused-exactly u m = (none, go (decLe E u))
     where
-      none : Refused (utcToGps es u) → (g : ℕ) → There g u → ⊥
-      none r g c = clash (utcToGps es u) (answered-from-E u (not-before-E g u c) m .1) (r .1)
+      none : (n : ℕ) × (utcToGps es u ≡ refused n) → (g : ℕ) → There g u → ⊥
+      none r g c = clash (utcToGps es u) (from-E es k f u (not-before-E g u c) m) (r .1)
 
-      go : Dec (E ≤ u) → ((g : ℕ) → There g u → ⊥) → Refused (utcToGps es u)
-      go (yes h) n = let (g, e, c) = answered-from-E u h m in absurd (n g (c .converts))
+      go : Dec (E ≤ u) → ((g : ℕ) → There g u → ⊥) → (n : ℕ) × (utcToGps es u ≡ refused n)
+      go (yes h) n = absurd (n (back u h m) (comes-back u h m))
       go (no h) n = (1, before-E es k f u (omega (arith, h)))
 
-  answers-the-earliest : AnswersTheEarliest (gpsToUtc es) (utcToGps es)
-  answers-the-earliest u g m = (go (decLe E u), only)
+  -- an answer is the one from E on
+  answer-is : (u g : ℕ) (m : u < 2 ^ 64) → utcToGps es u ≡ answered g → (l : E ≤ u) × (back u l m ≡ g)
+  answer-is u g m e = go (decLe E u)
     where
-      go : Dec (E ≤ u) → utcToGps es u ≡ answered g → Earliest (gpsToUtc es) g u
-      go (yes h) e =
-          let (g₀, e₀, c) = answered-from-E u h m in
-          subst (λ (n : ℕ). Earliest (gpsToUtc es) n u) (same (utcToGps es u) e₀ e) c
-      go (no h) e = absurd (clash (utcToGps es u) e (before-E es k f u (omega (arith, h))))
+      go : Dec (E ≤ u) → (l : E ≤ u) × (back u l m ≡ g)
+      go (yes h) = (h, same (utcToGps es u) (from-E es k f u h m) e)
+      go (no h) = absurd (clash (utcToGps es u) e (before-E es k f u (omega (arith, h))))
 
-      only : Earliest (gpsToUtc es) g u → utcToGps es u ≡ answered g
-      only c =
-          let (g₀, e₀, c₀) = answered-from-E u (not-before-E g u (c .converts)) m in
-          e₀ ∙ ap answered (omega (arith, c .first g₀ (c₀ .converts), c₀ .first g (c .converts)))
+  the-earliest : (u g : ℕ) → u < 2 ^ 64 → utcToGps es u ≡ answered g → (g′ : ℕ) → There g′ u → g ≤ g′
+  the-earliest u g m e = let (l, is) = answer-is u g m e in subst (λ (n : ℕ). (g′ : ℕ) → There g′ u → n ≤ g′) is (first-of-all u l m)
+
+  converts-back : (u g : ℕ) → u < 2 ^ 64 → utcToGps es u ≡ answered g → There g u
+  converts-back u g m e = let (l, is) = answer-is u g m e in subst (λ (n : ℕ). There n u) is (comes-back u l m)
 
   -- two that share a UTC count: the later one is a second and a leap second on
   apart : (g₁ g₂ u : ℕ) → There g₁ u → There g₂ u → g₁ < g₂ → (g₂ ≡ g₁ + second) × (k (tai g₁) < k (tai g₂))
@@ -120,15 +117,16 @@ module _ (es : List Entry) (k : ℕ → ℕ) (f : LeapSeconds es k) where
       let one = f .one-in-a-day (tai g₁) (tai g₂) (omega arith) in
       (omega arith, omega arith)
 
-  shared-exactly : SharedExactly es (gpsToUtc es)
+  shared-exactly : (g₁ g₂ u₁ u₂ : ℕ) → There g₁ u₁ → There g₂ u₂ → g₁ < g₂
+      → (u₁ ≡ u₂) ↔ ((g₂ ≡ g₁ + second) × InFirstSecond es (tai g₂))
   shared-exactly g₁ g₂ u₁ u₂ c₁ c₂ l = (
     λ e.
         let (d, more) = apart g₁ g₂ u₂ (subst (λ (u : ℕ). There g₁ u) e c₁) c₂ l in
         let i = f .more-by-an-entry (tai g₁) (tai g₂) more in
-        (omega arith, record { entry = i .entry; later = i .among; begun = omega (arith, i .by); within = omega (arith, i .after) }),
-    λ (d, i).
+        (omega arith, (i .entry, i .among, omega (arith, i .by), omega (arith, i .after))),
+    λ (d, (e, later, begun, within)).
         let between : Between (drop 1 es) (tai g₁) (tai g₂) =
-        record { entry = i .entry; among = i .later; after = omega (arith, i .within); by = omega (arith, i .begun) } in
+        record { entry = e; among = later; after = omega (arith, within); by = omega (arith, begun) } in
         let more = f .an-entry-more (tai g₁) (tai g₂) between in
         let one = f .one-in-a-day (tai g₁) (tai g₂) (omega arith) in
         omega (arith, reads c₁ .exact, reads c₂ .exact),
@@ -142,7 +140,7 @@ module _ (es : List Entry) (k : ℕ → ℕ) (f : LeapSeconds es k) where
       go (yes h) = omega (arith, apart g₁ g₂ u c₁ c₂ h .0)
       go (no h) = omega (arith, apart g₂ g₁ u c₂ c₁ (omega (arith, h, n)) .0)
 
-  at-most-two : AtMostTwo (gpsToUtc es)
+  at-most-two : (g₁ g₂ g₃ u : ℕ) → There g₁ u → There g₂ u → There g₃ u → g₁ ≢ g₂ → g₂ ≢ g₃ → g₁ ≢ g₃ → ⊥
   at-most-two g₁ g₂ g₃ u c₁ c₂ c₃ n₁ n₂ n₃ =
       no-three g₁ g₂ g₃ (a-second g₁ g₂ u c₁ c₂ n₁) (a-second g₂ g₃ u c₂ c₃ n₂) (a-second g₁ g₃ u c₁ c₃ n₃)
 
@@ -152,7 +150,8 @@ by-a-regular-list es r =
     let f = counted es r in
     record {
       refused-exactly = refused-exactly es k f;
-      answers-the-earliest = answers-the-earliest es k f;
+      the-earliest = the-earliest es k f;
+      converts-back = converts-back es k f;
       shared-exactly = shared-exactly es k f;
       at-most-two = at-most-two es k f;
     }

@@ -1,4 +1,4 @@
--- Demand 3: what UTC to GPS answers, told by GPS to UTC, over a regular list of entries. Counts are in nanoseconds.
+-- Demand 3, over a regular list of entries. Counts are in nanoseconds.
 --     there g   what GPS to UTC gives for the GPS count g
 --     back u    what UTC to GPS gives for the UTC count u
 use mathlib.Core.Path.{_≡_}
@@ -12,49 +12,24 @@ use Rattle.scales.specs.Scales.{taiMinusGps}
 use Rattle.tables.specs.Entries.{Entry, threshold}
 
 -- the GPS count g, of 64 bits, converts to the UTC count u
-pub record Converts (there : ℕ → Outcome ℕ) (g u : ℕ) : Type 0 where
-  pub count : g < 2 ^ 64
-  pub gives : there g ≡ answered u
-
--- g is the earliest GPS count that converts to u
-pub record Earliest (there : ℕ → Outcome ℕ) (g u : ℕ) : Type 0 where
-  pub converts : Converts there g u
-  pub first : (g′ : ℕ) → Converts there g′ u → g ≤ g′
+abbrev pub Converts : (ℕ → Outcome ℕ) → ℕ → ℕ → Type 0
+Converts there g u = (g < 2 ^ 64) × (there g ≡ answered u)
 
 -- the TAI reading t lies in the first second from the threshold of an entry after the first
-pub record InFirstSecond (es : List Entry) (t : ℕ) : Type 0 where
-  pub entry : Entry
-  pub later : List·Memᴰ entry (drop 1 es)
-  pub begun : threshold entry ≤ t
-  pub within : t < threshold entry + second
+abbrev pub InFirstSecond : List Entry → ℕ → Type 0
+InFirstSecond es t = (e : Entry) × List·Memᴰ e (drop 1 es) × (threshold e ≤ t) × (t < threshold e + second)
 
--- refused, by whatever number
-abbrev pub Refused : Outcome ℕ → Type 0
-Refused o = (k : ℕ) × (o ≡ refused k)
-
--- 1. The way back is refused exactly if no GPS count converts to u.
-abbrev pub RefusedExactly : (there back : ℕ → Outcome ℕ) → Type 0
-RefusedExactly there back = (u : ℕ) → u < 2 ^ 64 → Refused (back u) ↔ ((g : ℕ) → Converts there g u → ⊥)
-
--- 2. It answers g exactly if g is the earliest GPS count that converts to u. So g converts to u again.
-abbrev pub AnswersTheEarliest : (there back : ℕ → Outcome ℕ) → Type 0
-AnswersTheEarliest there back = (u g : ℕ) → u < 2 ^ 64 → (back u ≡ answered g) ↔ Earliest there g u
-
--- 3. Two GPS counts share a UTC count exactly if they are one second apart and the TAI reading of the later one lies in such a first second.
-abbrev pub SharedExactly : List Entry → (there : ℕ → Outcome ℕ) → Type 0
-SharedExactly es there =
-    (g₁ g₂ u₁ u₂ : ℕ) → Converts there g₁ u₁ → Converts there g₂ u₂ → g₁ < g₂
-    → (u₁ ≡ u₂) ↔ ((g₂ ≡ g₁ + second) × InFirstSecond es (g₂ + taiMinusGps))
-
--- 4. No three different GPS counts share a UTC count.
-abbrev pub AtMostTwo : (there : ℕ → Outcome ℕ) → Type 0
-AtMostTwo there =
-    (g₁ g₂ g₃ u : ℕ) → Converts there g₁ u → Converts there g₂ u → Converts there g₃ u
-    → g₁ ≢ g₂ → g₂ ≢ g₃ → g₁ ≢ g₃ → ⊥
-
--- all four
 pub record TwoInstants (es : List Entry) (there back : ℕ → Outcome ℕ) : Type 0 where
-  pub refused-exactly : RefusedExactly there back
-  pub answers-the-earliest : AnswersTheEarliest there back
-  pub shared-exactly : SharedExactly es there
-  pub at-most-two : AtMostTwo there
+  -- UTC to GPS refuses exactly if no GPS count converts to that UTC count;
+  pub refused-exactly : (u : ℕ) → u < 2 ^ 64 → ((k : ℕ) × (back u ≡ refused k)) ↔ ((g : ℕ) → Converts there g u → ⊥)
+  -- otherwise it gives the earliest that does,
+  pub the-earliest : (u g : ℕ) → u < 2 ^ 64 → back u ≡ answered g → (g′ : ℕ) → Converts there g′ u → g ≤ g′
+  -- which converts back exactly.
+  pub converts-back : (u g : ℕ) → u < 2 ^ 64 → back u ≡ answered g → Converts there g u
+  -- Two different GPS counts that both convert share a UTC count exactly if they are one second apart and the later one's TAI reading
+  -- lies in the first second from the threshold of an entry after the first.
+  pub shared-exactly : (g₁ g₂ u₁ u₂ : ℕ) → Converts there g₁ u₁ → Converts there g₂ u₂ → g₁ < g₂
+      → (u₁ ≡ u₂) ↔ ((g₂ ≡ g₁ + second) × InFirstSecond es (g₂ + taiMinusGps))
+  -- No three share one.
+  pub at-most-two : (g₁ g₂ g₃ u : ℕ) → Converts there g₁ u → Converts there g₂ u → Converts there g₃ u
+      → g₁ ≢ g₂ → g₂ ≢ g₃ → g₁ ≢ g₃ → ⊥
