@@ -1,51 +1,90 @@
--- Demand 3: UTC to GPS is refused exactly if no GPS count converts, and answers the earliest that does; a UTC count names two instants exactly in an
--- inserted second, and never three. `TwoInstants` of specs/TwoInstants.antt says it exactly.
-use mathlib.Core.Path.{_≡_, sym, _∙_}
+-- Demand 3: each pair of calls answers what `gpsToUtc` and `utcToGps` say of the entries of its table, and of a regular list they are proved in
+-- WayBack.antt. specs/OfCalls.antt says of which calls, specs/TwoInstants.antt what.
+use mathlib.Core.Path.{_≡_, refl, sym, ap, _∙_}
 use mathlib.Core.Bool.{true}
 use mathlib.Core.List.{List}
-use Prim.Native.Nat.{ℕ, _≤_}
+use Prim.Native.Nat.{ℕ}
 use borrow.Author.Tests.{le-leb}
-use Rattle.scales.specs.declared.gps.GpsAnswer.{GpsAnswer}
-use Rattle.scales.specs.declared.utc.UtcAnswer.{UtcAnswer}
+use denote.Ref.{now}
+use Rattle.refusals.specs.Outcome.{Outcome, Gives}
 use Rattle.tables.specs.Entries.{Entry, regular}
-use Rattle.tables.specs.Slots.{entriesOf, validTable}
+use Rattle.tables.specs.Slots.{entriesOf, validTable, ofValid}
 use Rattle.tables.specs.declared.LeapTable.{LeapTable}
 use Rattle.tables.proofs.Checked.{good}
+use Rattle.images.specs.Image.{tableOfImage}
 use Rattle.conversions.specs.Conversions.{gpsToUtc, utcToGps}
 use Rattle.builtin.specs.Builtin.{builtin}
 use Rattle.builtin.proofs.Regular.{builtin-regular}
 use Rattle.demands.specs.TwoInstants.{TwoInstants}
-use Rattle.demands.specs.OfCalls.{AnswerBy, AnswerByBuiltin, TwoInstantsOf}
+use Rattle.demands.specs.OfCalls.{told, Allows, TwoInstantsOf, Regular, Demand3}
 use Rattle.demands.proofs.LeapSeconds.{tests}
 use Rattle.demands.proofs.OnCounts.{kept}
+use Rattle.demands.proofs.Told.{told-is, gps-to-utc-numbered, utc-to-gps-numbered, valid-numbered}
 use Rattle.demands.proofs.WayBack.{by-a-regular-list}
 
--- the statements
-abbrev pub ByRegularLists : Type 0
-ByRegularLists = (es : List Entry) → regular es ≡ true → TwoInstants es (gpsToUtc es) (utcToGps es)
-
-abbrev pub ByRegularTables : Type 0
-ByRegularTables =
-    (table : LeapTable) → table .len ≤ 64 → regular (entriesOf table) ≡ true
-    → (there : ℕ → UtcAnswer) (back : ℕ → GpsAnswer) → AnswerBy table there back → TwoInstantsOf (entriesOf table) there back
-
-abbrev pub ByTheBuiltinTable : Type 0
-ByTheBuiltinTable = (there : ℕ → UtcAnswer) (back : ℕ → GpsAnswer) → AnswerByBuiltin there back → TwoInstantsOf builtin there back
-
--- their proofs
-pub by-regular-lists : ByRegularLists
+pub by-regular-lists : (es : List Entry) → regular es ≡ true → TwoInstants es (gpsToUtc es) (utcToGps es)
 by-regular-lists = by-a-regular-list
 
-pub by-regular-tables : ByRegularTables
-by-regular-tables table short r there back a =
-    kept (entriesOf table)
-    (λ g l. a .to-utc g l .1 ∙ sym (good table (gpsToUtc (entriesOf table) g) is-valid))
-    (λ u l. a .to-gps u l .1 ∙ sym (good table (utcToGps (entriesOf table) u) is-valid))
-    (by-regular-lists (entriesOf table) r)
-  where
-    is-valid : validTable table ≡ true
-    is-valid = rw (le-leb (table .len) 64 short) (tests (entriesOf table) r .is-valid)
+-- two calls that answer as the definitions do
+of-pair : (es : List Entry) → regular es ≡ true → {There Back : ℕ → Outcome ℕ → Type 0}
+    → ((g : ℕ) (o : Outcome ℕ) → There g o → o ≡ gpsToUtc es g) → ((u : ℕ) (o : Outcome ℕ) → Back u o → o ≡ utcToGps es u)
+    → TwoInstantsOf es There Back
+of-pair es r to from there back a b = kept es (λ g l. to g (there g) (a g l)) (λ u l. from u (back u) (b u l)) (by-regular-lists es r)
 
-pub by-the-builtin-table : ByTheBuiltinTable
-by-the-builtin-table there back a =
-    kept builtin (λ g l. a .to-utc g l .1) (λ u l. a .to-gps u l .1) (by-regular-lists builtin builtin-regular)
+module _ {Lifetimes : Type 0} {Arguments Answer End : Lifetimes → Type 0} where
+  -- a contract that says d to those who ask so allows nothing else
+  allowed : {Contract : (κ : Lifetimes) → Arguments κ → Answer κ → End κ → Type 0} {Asks : (κ : Lifetimes) → Arguments κ → Type 0}
+      {tells : (κ : Lifetimes) → Answer κ → End κ → Outcome ℕ} (d : Outcome ℕ)
+      → ((κ : Lifetimes) (a : Arguments κ) (r : Answer κ) (e : End κ) → Asks κ a → Contract κ a r e → tells κ r e ≡ d)
+      → (o : Outcome ℕ) → Allows Contract Asks tells o → o ≡ d
+  allowed d says o (κ, a, r, e, asks, holds, tells) = sym tells ∙ says κ a r e asks holds
+
+-- the same by a regular table, which is valid: no 8 comes first
+of-table : (t : LeapTable) → Regular t → {There Back : ℕ → Outcome ℕ → Type 0}
+    → ((g : ℕ) (o : Outcome ℕ) → There g o → o ≡ ofValid t (gpsToUtc (entriesOf t) g))
+    → ((u : ℕ) (o : Outcome ℕ) → Back u o → o ≡ ofValid t (utcToGps (entriesOf t) u))
+    → TwoInstantsOf (entriesOf t) There Back
+of-table t (short, r) to from =
+    of-pair (entriesOf t) r (λ g o a. to g o a ∙ sym (good t _ is-valid)) (λ u o a. from u o a ∙ sym (good t _ is-valid))
+  where
+    is-valid : validTable t ≡ true
+    is-valid = rw (le-leb (t .len) 64 short) (tests (entriesOf t) r .is-valid)
+
+-- what is answered by the table that s holds
+module _ {Source : Type 0} (table : Source → LeapTable) (convert : List Entry → ℕ → Outcome ℕ) where
+  abbrev by : Source → ℕ → Outcome ℕ
+  by s n = ofValid (table s) (convert (entriesOf (table s)) n)
+
+  as-asked : {n m : ℕ} {s s′ : Source} → (m ≡ n) × (s′ ≡ s) → by s′ m ≡ by s n
+  as-asked (p, q) = λ i. by (q i) (p i)
+
+-- what a host is told by an image
+told-there : {k v : ℕ} (b : List ℕ) (g : ℕ) → Gives 0 (by tableOfImage gpsToUtc b g) k v → told k v ≡ by tableOfImage gpsToUtc b g
+told-there b g p = told-is _ (valid-numbered (tableOfImage b) _ (gps-to-utc-numbered (entriesOf (tableOfImage b)) g)) p
+
+told-back : {k v : ℕ} (b : List ℕ) (u : ℕ) → Gives 0 (by tableOfImage utcToGps b u) k v → told k v ≡ by tableOfImage utcToGps b u
+told-back b u p = told-is _ (valid-numbered (tableOfImage b) _ (utc-to-gps-numbered (entriesOf (tableOfImage b)) u)) p
+
+pub demand-3 : Demand3
+demand-3 = record {
+  by-value = λ t r.
+      of-table t r
+      (λ g. allowed (by (λ t. t) gpsToUtc t g) (λ κ a r e q p. p ∙ as-asked (λ t. t) gpsToUtc q))
+      (λ u. allowed (by (λ t. t) utcToGps t u) (λ κ a r e q p. p ∙ as-asked (λ t. t) utcToGps q));
+  in-place = λ b r.
+      of-table (tableOfImage b) r
+      (λ g. allowed (by tableOfImage gpsToUtc b g) (λ κ a r e q p. p ∙ as-asked tableOfImage gpsToUtc q))
+      (λ u. allowed (by tableOfImage utcToGps b u) (λ κ a r e q p. p ∙ as-asked tableOfImage utcToGps q));
+  built-in =
+      of-pair builtin builtin-regular
+      (λ g. allowed (gpsToUtc builtin g) (λ κ a r e q p. p ∙ ap (gpsToUtc builtin) q))
+      (λ u. allowed (utcToGps builtin u) (λ κ a r e q p. p ∙ ap (utcToGps builtin) q));
+  exported = λ b r.
+      of-table (tableOfImage b) r
+      (λ g. allowed (by tableOfImage gpsToUtc b g) (λ κ a k e q p. told-there (now (a .1 .0)) (a .0) p ∙ as-asked tableOfImage gpsToUtc q))
+      (λ u. allowed (by tableOfImage utcToGps b u) (λ κ a k e q p. told-back (now (a .1 .0)) (a .0) p ∙ as-asked tableOfImage utcToGps q));
+  exported-built-in =
+      of-pair builtin builtin-regular
+      (λ g. allowed (gpsToUtc builtin g) (λ κ a k e q p. told-is _ (gps-to-utc-numbered builtin (a .0)) p ∙ ap (gpsToUtc builtin) q))
+      (λ u. allowed (utcToGps builtin u) (λ κ a k e q p. told-is _ (utc-to-gps-numbered builtin (a .0)) p ∙ ap (utcToGps builtin) q));
+}

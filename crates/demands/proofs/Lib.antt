@@ -2,6 +2,7 @@ mod LeapSeconds
 mod OnNaturals
 mod WayBack
 mod OnCounts
+mod Told
 pub mod Demand1
 pub mod Demand3
 pub mod EveryExample

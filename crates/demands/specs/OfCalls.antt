@@ -1,32 +1,68 @@
--- Demand 3 of the calls themselves: what `gps_to_utc` and `utc_to_gps` answer is whatever their contracts allow.
-use Prim.Native.Nat.{ℕ, _^_, _<_}
+-- Demand 3 of the calls that convert, pair by pair: it holds of whatever their contracts allow them to answer.
+use mathlib.Core.Path.{_≡_}
+use mathlib.Core.Bool.{true, cond}
 use mathlib.Core.List.{List}
+use Prim.Native.Nat.{ℕ, _^_, _≤_, _<_}
+use lib.Dec.{eqb}
+use denote.Ref.{now}
+use Rattle.refusals.specs.Outcome.{Outcome, answered, refused}
 use Rattle.scales.specs.Answers.{gpsIn, utcIn}
-use Rattle.scales.specs.declared.gps.GpsAnswer.{GpsAnswer}
-use Rattle.scales.specs.declared.utc.UtcAnswer.{UtcAnswer}
-use Rattle.tables.specs.Entries.{Entry}
+use Rattle.tables.specs.Entries.{Entry, regular}
+use Rattle.tables.specs.Slots.{entriesOf}
 use Rattle.tables.specs.declared.LeapTable.{LeapTable}
+use Rattle.images.specs.Image.{tableOfImage}
+use Rattle.builtin.specs.Builtin.{builtin}
 use Rattle.conversions.proofs.gps_to_utc.Reads as gps-to-utc
 use Rattle.conversions.proofs.utc_to_gps.Reads as utc-to-gps
+use Rattle.inplace.proofs.gps_to_utc.Reads as inplace-gps-to-utc
+use Rattle.inplace.proofs.utc_to_gps.Reads as inplace-utc-to-gps
 use Rattle.builtin.proofs.gps_to_utc.Reads as builtin-gps-to-utc
 use Rattle.builtin.proofs.utc_to_gps.Reads as builtin-utc-to-gps
+use Rattle.plaitgate.proofs.by_table.plaitgate_gps_to_utc.Reads as plaitgate-gps-to-utc
+use Rattle.plaitgate.proofs.by_table.plaitgate_utc_to_gps.Reads as plaitgate-utc-to-gps
+use Rattle.plaitgate.proofs.by_builtin.plaitgate_builtin_gps_to_utc.Reads as plaitgate-builtin-gps-to-utc
+use Rattle.plaitgate.proofs.by_builtin.plaitgate_builtin_utc_to_gps.Reads as plaitgate-builtin-utc-to-gps
 use Rattle.demands.specs.TwoInstants.{TwoInstants}
 
+-- what a host is told by a number and a value: an answer where the number is 0, and else a refusal
+abbrev pub told : ℕ → ℕ → Outcome ℕ
+told number value = cond (eqb number 0) (answered value) (refused number)
+
 module _ {Lifetimes : Type 0} {Arguments Answer End : Lifetimes → Type 0} where
-  -- an answer to the arguments that a contract allows, whatever it leaves at its end
-  abbrev pub Allowed : ((κ : Lifetimes) → Arguments κ → Answer κ → End κ → Type 0) → (κ : Lifetimes) → Arguments κ → Answer κ → Type 0
-  Allowed Contract κ a r = (e : End κ) × Contract κ a r e
+  -- to arguments that ask so, the contract allows an answer that tells o
+  abbrev pub Allows : ((κ : Lifetimes) → Arguments κ → Answer κ → End κ → Type 0) → ((κ : Lifetimes) → Arguments κ → Type 0)
+      → ((κ : Lifetimes) → Answer κ → End κ → Outcome ℕ) → Outcome ℕ → Type 0
+  Allows Contract Asks tells o =
+      (κ : Lifetimes) × (a : Arguments κ) × (r : Answer κ) × (e : End κ) × Asks κ a × Contract κ a r e × (tells κ r e ≡ o)
 
--- `there g` and `back u` are what the two calls answer to the GPS count g and the UTC count u, by a table
-pub record AnswerBy (table : LeapTable) (there : ℕ → UtcAnswer) (back : ℕ → GpsAnswer) : Type 0 where
-  pub to-utc : (g : ℕ) → g < 2 ^ 64 → Allowed gps-to-utc.Post tt (record { 0 = g }, (table, tt)) (there g)
-  pub to-gps : (u : ℕ) → u < 2 ^ 64 → Allowed utc-to-gps.Post tt (record { 0 = u }, (table, tt)) (back u)
+-- whatever two calls answer to each count of 64 bits, as far as they are allowed to
+abbrev pub TwoInstantsOf : List Entry → (There Back : ℕ → Outcome ℕ → Type 0) → Type 0
+TwoInstantsOf es There Back =
+    (there back : ℕ → Outcome ℕ) → ((g : ℕ) → g < 2 ^ 64 → There g (there g)) → ((u : ℕ) → u < 2 ^ 64 → Back u (back u))
+    → TwoInstants es there back
 
--- by the built-in table
-pub record AnswerByBuiltin (there : ℕ → UtcAnswer) (back : ℕ → GpsAnswer) : Type 0 where
-  pub to-utc : (g : ℕ) → g < 2 ^ 64 → Allowed builtin-gps-to-utc.Post tt (record { 0 = g }, tt) (there g)
-  pub to-gps : (u : ℕ) → u < 2 ^ 64 → Allowed builtin-utc-to-gps.Post tt (record { 0 = u }, tt) (back u)
+-- a table that says it has at most 64 entries, and they are regular; bytes of another size than an image's hold none
+abbrev pub Regular : LeapTable → Type 0
+Regular t = (t .len ≤ 64) × (regular (entriesOf t) ≡ true)
 
--- the four statements of such answers
-abbrev pub TwoInstantsOf : List Entry → (ℕ → UtcAnswer) → (ℕ → GpsAnswer) → Type 0
-TwoInstantsOf es there back = TwoInstants es (λ g. utcIn (there g)) (λ u. gpsIn (back u))
+pub record Demand3 : Type 0 where
+  -- `conversions::gps_to_utc` and `utc_to_gps`, by a table
+  pub by-value : (t : LeapTable) → Regular t → TwoInstantsOf (entriesOf t)
+      (λ g. Allows gps-to-utc.Post (λ κ a. (a .0 .0 ≡ g) × (a .1 .0 ≡ t)) (λ κ r e. utcIn r))
+      (λ u. Allows utc-to-gps.Post (λ κ a. (a .0 .0 ≡ u) × (a .1 .0 ≡ t)) (λ κ r e. gpsIn r))
+  -- `inplace::gps_to_utc` and `utc_to_gps`, by an image
+  pub in-place : (b : List ℕ) → Regular (tableOfImage b) → TwoInstantsOf (entriesOf (tableOfImage b))
+      (λ g. Allows inplace-gps-to-utc.Post (λ κ a. (a .0 .0 ≡ g) × (now (a .1 .0) ≡ b)) (λ κ r e. utcIn r))
+      (λ u. Allows inplace-utc-to-gps.Post (λ κ a. (a .0 .0 ≡ u) × (now (a .1 .0) ≡ b)) (λ κ r e. gpsIn r))
+  -- `builtin::gps_to_utc` and `utc_to_gps`
+  pub built-in : TwoInstantsOf builtin
+      (λ g. Allows builtin-gps-to-utc.Post (λ κ a. a .0 .0 ≡ g) (λ κ r e. utcIn r))
+      (λ u. Allows builtin-utc-to-gps.Post (λ κ a. a .0 .0 ≡ u) (λ κ r e. gpsIn r))
+  -- `plaitgate_gps_to_utc` and `plaitgate_utc_to_gps`, by an image
+  pub exported : (b : List ℕ) → Regular (tableOfImage b) → TwoInstantsOf (entriesOf (tableOfImage b))
+      (λ g. Allows plaitgate-gps-to-utc.Post (λ κ a. (a .0 ≡ g) × (now (a .1 .0) ≡ b)) (λ κ k e. told k (now (e .1 .1 .0))))
+      (λ u. Allows plaitgate-utc-to-gps.Post (λ κ a. (a .0 ≡ u) × (now (a .1 .0) ≡ b)) (λ κ k e. told k (now (e .1 .1 .0))))
+  -- `plaitgate_builtin_gps_to_utc` and `plaitgate_builtin_utc_to_gps`
+  pub exported-built-in : TwoInstantsOf builtin
+      (λ g. Allows plaitgate-builtin-gps-to-utc.Post (λ κ a. a .0 ≡ g) (λ κ k e. told k (now (e .1 .0))))
+      (λ u. Allows plaitgate-builtin-utc-to-gps.Post (λ κ a. a .0 ≡ u) (λ κ k e. told k (now (e .1 .0))))
