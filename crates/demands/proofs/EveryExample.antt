@@ -1,4 +1,4 @@
--- Every example holds, by computation; but the dates, which would take a step for each day since 1970, by the calendar's theorem.
+-- Every example holds, by computation; but the date, which would take a step for each day since 1970, by the calendar's theorem.
 use mathlib.Core.Path.{_≡_, refl, ap}
 use Prim.Native.Nat.{ℕ}
 use lib.IntN.{pos}
@@ -11,29 +11,18 @@ use Rattle.tables.specs.Entries.{neighbours, lastUpTo, offsetAt, lastOr, joinRe
 use Rattle.tables.specs.Slots.{paired}
 use Rattle.builtin.specs.Builtin.{builtin, events, thresholdOf, entriesFrom}
 use Rattle.demands.specs.Examples.{Every, _also_, none-left, examples}
-use Rattle.demands.specs.InsertedSecond.{endOf2016, tooClose}
 
 last-day : dateOf (pos 214_233) ≡ on (pos 2556) 7 20
 unfolding formula era yoe doy doe daysIn
 last-day = date-of-day (on (pos 2556) 7 20) (real (on (pos 2556) 7 20) tt)
 
-first-of-2017 : dateOf (pos 17_167) ≡ on (pos 2017) 1 1
-unfolding formula era yoe doy doe daysIn
-first-of-2017 = date-of-day (on (pos 2017) 1 1) (real (on (pos 2017) 1 1) tt)
-
-abbrev at : ℕ → ℕ → ℕ → ℕ → Date → Fields
+-- the fields at a time of day
+abbrev pub at : ℕ → ℕ → ℕ → ℕ → Date → Fields
 at h m s n d = record { date = d; hour = h; minute = m; second = s; nanos = n }
 
 pub every-example : (week : ℕ) → Every (examples week)
 unfolding builtin events thresholdOf entriesFrom formula era yoe doy doe neighbours lastUpTo offsetAt lastOr joinRefusal paired
 every-example week =
     refl also refl also refl also refl also refl also refl also refl also refl also refl also refl also refl also refl also refl also refl also
-    refl also refl also refl also ap (at 23 34 33 709_551_615) last-day also refl also refl also refl also refl also none-left
-
-pub end-of-2016 : Every endOf2016
-unfolding builtin events thresholdOf entriesFrom formula era yoe doy doe lastUpTo offsetAt
-end-of-2016 = refl also refl also refl also refl also refl also refl also refl also ap (at 0 0 0 0) first-of-2017 also none-left
-
-pub too-close : Every tooClose
-unfolding lastUpTo offsetAt
-too-close = refl also refl also refl also refl also refl also none-left
+    refl also refl also refl also ap (at 23 34 33 709_551_615) last-day also refl also refl also refl also refl also
+    refl also refl also refl also none-left

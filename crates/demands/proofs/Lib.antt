@@ -6,3 +6,4 @@ mod Told
 pub mod Demand1
 pub mod Demand3
 pub mod EveryExample
+pub mod InsertedSecond

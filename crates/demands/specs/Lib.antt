@@ -2,4 +2,3 @@ pub mod TwoInstants
 pub mod OfCalls
 pub mod RefusalsLeave
 pub mod Examples
-pub mod InsertedSecond
