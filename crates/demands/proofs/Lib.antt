@@ -3,6 +3,7 @@ mod OnNaturals
 mod WayBack
 mod OnCounts
 mod Told
+mod Beside
 pub mod Demand1
 pub mod Demand3
 pub mod EveryExample

@@ -1,0 +1,39 @@
+-- Beside a refusal of a civil date or time a host is given zeros.
+use lib.IntN.{pos}
+use denote.Ref.{now}
+use Rattle.calendar.specs.Calendar.{on}
+use Rattle.calendar.specs.Dates.{daysFromUnix, daysUntil, secondsUntil, nanosUntil}
+use Rattle.civil.specs.Fields.{countAt}
+use Rattle.plaitgate.specs.Civil.{fields}
+use Rattle.plaitgate.proofs.civil_dates
+use Rattle.plaitgate.proofs.civil_times
+use Rattle.demands.specs.RefusalsLeave.{ZerosBeside}
+use Rattle.demands.proofs.Beside.{zeros-beside}
+
+pub days-from-unix : ZerosBeside civil_dates.plaitgate_civil_date_days_from_unix.Reads.Post
+    (pos 0) (λ κ e. now (e .1 .1 .1 .0))
+days-from-unix κ a k e = zeros-beside (daysFromUnix (on (a .0) (a .1 .0) (a .1 .1 .0)))
+
+pub days-until : ZerosBeside civil_dates.plaitgate_civil_date_days_until.Reads.Post
+    (pos 0) (λ κ e. now (e .1 .1 .1 .1 .1 .1 .0))
+days-until κ a k e =
+    zeros-beside (daysUntil (on (a .0) (a .1 .0) (a .1 .1 .0)) (on (a .1 .1 .1 .0) (a .1 .1 .1 .1 .0) (a .1 .1 .1 .1 .1 .0)))
+
+pub seconds-until : ZerosBeside civil_dates.plaitgate_civil_date_seconds_until.Reads.Post
+    (pos 0) (λ κ e. now (e .1 .1 .1 .1 .1 .1 .0))
+seconds-until κ a k e =
+    zeros-beside (secondsUntil (on (a .0) (a .1 .0) (a .1 .1 .0)) (on (a .1 .1 .1 .0) (a .1 .1 .1 .1 .0) (a .1 .1 .1 .1 .1 .0)))
+
+pub nanos-until : ZerosBeside civil_dates.plaitgate_civil_date_nanos_until.Reads.Post
+    (pos 0) (λ κ e. now (e .1 .1 .1 .1 .1 .1 .0))
+nanos-until κ a k e =
+    zeros-beside (nanosUntil (on (a .0) (a .1 .0) (a .1 .1 .0)) (on (a .1 .1 .1 .0) (a .1 .1 .1 .1 .0) (a .1 .1 .1 .1 .1 .0)))
+
+pub to-utc-nanos : ZerosBeside civil_times.plaitgate_civil_to_utc_nanos.Reads.Post
+    0 (λ κ e. now (e .1 .1 .1 .1 .1 .1 .1 .0))
+to-utc-nanos κ a k e =
+    zeros-beside (countAt (fields (a .0) (a .1 .0) (a .1 .1 .0) (a .1 .1 .1 .0) (a .1 .1 .1 .1 .0) (a .1 .1 .1 .1 .1 .0) (a .1 .1 .1 .1 .1 .1 .0)))
+
+pub to-utc : ZerosBeside civil_times.plaitgate_civil_to_utc.Reads.Post 0 (λ κ e. now (e .1 .1 .1 .1 .1 .1 .1 .0))
+to-utc κ a k e =
+    zeros-beside (countAt (fields (a .0) (a .1 .0) (a .1 .1 .0) (a .1 .1 .1 .0) (a .1 .1 .1 .1 .0) (a .1 .1 .1 .1 .1 .0) (a .1 .1 .1 .1 .1 .1 .0)))

@@ -1,0 +1,30 @@
+-- Beside a refusal of what is read from a lent list of entries a host is given zeros.
+use lib.Dec.{eqb}
+use lib.ListN.{length}
+use lib.IntN.{pos}
+use denote.Ref.{now}
+use Rattle.refusals.specs.Outcome.{answered}
+use Rattle.tables.specs.Entries.{offsetAt, currentOffset, lastUpdate}
+use Rattle.listed.specs.Listed.{ofListed}
+use Rattle.plaitgate.specs.Tables.{changed, bit, foundAs, foundCount}
+use Rattle.plaitgate.proofs.leap_lists
+use Rattle.demands.specs.RefusalsLeave.{ZerosBeside}
+use Rattle.demands.proofs.Beside.{zeros-beside}
+
+pub len : ZerosBeside leap_lists.plaitgate_list_len.Reads.Post 0 (λ κ e. now (e .1 .0))
+len κ a k e = zeros-beside (ofListed (now (a .0)) (λ es. answered (length es)))
+
+pub is-empty : ZerosBeside leap_lists.plaitgate_list_is_empty.Reads.Post 0 (λ κ e. now (e .1 .0))
+is-empty κ a k e = zeros-beside (changed bit (ofListed (now (a .0)) (λ es. answered (eqb (length es) 0))))
+
+pub last-update : ZerosBeside leap_lists.plaitgate_list_last_update.Reads.Post
+    (foundAs 0 0) (λ κ e. foundAs (now (e .1 .0)) (now (e .1 .1 .0)))
+last-update κ a k e = zeros-beside (changed foundCount (ofListed (now (a .0)) (λ es. answered (lastUpdate es))))
+
+pub current-tai-minus-utc : ZerosBeside leap_lists.plaitgate_list_current_tai_minus_utc.Reads.Post
+    (pos 0) (λ κ e. now (e .1 .0))
+current-tai-minus-utc κ a k e = zeros-beside (ofListed (now (a .0)) (λ es. answered (currentOffset es)))
+
+pub tai-minus-utc-at : ZerosBeside leap_lists.plaitgate_list_tai_minus_utc_at.Reads.Post
+    (pos 0) (λ κ e. now (e .1 .1 .0))
+tai-minus-utc-at κ a k e = zeros-beside (ofListed (now (a .0)) (λ es. answered (offsetAt es (a .1 .0))))
