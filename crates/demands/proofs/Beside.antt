@@ -1,9 +1,10 @@
--- A contract that gives a host the number and the value of an outcome gives zeros beside a refusal: the law behind `ZerosBeside`.
+-- The law behind `ZerosBeside`: a host is given the value of an outcome, and that of a refusal is zeros.
 use mathlib.Core.Path.{_≡_}
 use mathlib.Core.Logic.{_≢_}
 use Prim.Native.Nat.{ℕ}
 use Rattle.refusals.specs.Outcome.{Outcome, answered, refused, Gives}
 
-pub zeros-beside : {A : Type 0} {zeros value : A} {number : ℕ} (o : Outcome A) → Gives zeros o number value → number ≢ 0 → value ≡ zeros
+pub zeros-beside : {A : Type 0} {zeros value : A} {number : ℕ} (o : Outcome A)
+    → Gives zeros o number value → number ≢ 0 → value ≡ zeros
 zeros-beside (answered a) gives not-done = absurd (not-done (gives .0))
 zeros-beside (refused k) gives not-done = gives .1

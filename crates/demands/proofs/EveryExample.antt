@@ -1,4 +1,4 @@
--- Every example holds, by computation; but the date, which would take a step for each day since 1970, by the calendar's theorem.
+-- Every example holds by computation; the date alone, which is too many days from 1970, by the calendar's theorem.
 use mathlib.Core.Path.{_≡_, refl, ap}
 use Prim.Native.Nat.{ℕ}
 use lib.IntN.{pos}
@@ -23,6 +23,6 @@ at h m s n d = record { date = d; hour = h; minute = m; second = s; nanos = n }
 pub every-example : (week : ℕ) → Every (examples week)
 unfolding builtin events thresholdOf entriesFrom formula era yoe doy doe neighbours lastUpTo offsetAt lastOr joinRefusal paired
 every-example week =
-    refl also refl also refl also refl also refl also refl also refl also refl also refl also refl also refl also refl also refl also refl also
-    refl also refl also refl also ap (at 23 34 33 709_551_615) last-day also refl also refl also refl also refl also
-    refl also refl also refl also none-left
+    refl also refl also refl also refl also refl also refl also refl also refl also refl also refl also
+    refl also refl also refl also refl also refl also refl also refl also ap (at 23 34 33 709_551_615) last-day also
+    refl also refl also refl also refl also refl also refl also refl also none-left

@@ -1,4 +1,5 @@
--- The numbers of docs/TWO-INSTANTS.md, by computation: the second inserted at the end of 2016, and lists whose thresholds lie too close.
+-- The numbers of docs/TWO-INSTANTS.md hold by computation: the second inserted at the end of 2016, and lists whose
+-- thresholds lie too close.
 use mathlib.Core.Path.{_≡_, refl, ap}
 use mathlib.Core.List.{List, [], _∷_}
 use Prim.Native.Nat.{ℕ, _*_}
@@ -53,7 +54,8 @@ first-of-2017 = date-of-day (on (pos 2017) 1 1) (real (on (pos 2017) 1 1) tt)
 
 pub end-of-2016 : Every endOf2016
 unfolding builtin events thresholdOf entriesFrom formula era yoe doy doe lastUpTo offsetAt
-end-of-2016 = refl also refl also refl also refl also refl also refl also refl also ap (at 0 0 0 0) first-of-2017 also none-left
+end-of-2016 =
+    refl also refl also refl also refl also refl also refl also refl also ap (at 0 0 0 0) first-of-2017 also none-left
 
 pub too-close : Every tooClose
 unfolding lastUpTo offsetAt

@@ -51,7 +51,8 @@ valid-numbered t o n = by-test (validTable t) o (refused 8) n (λ e. omega arith
 pub gps-to-utc-numbered : (es : List Entry) (g : ℕ) → Numbered (gpsToUtc es g)
 gps-to-utc-numbered es g =
     let tai = pos (g + 19 * second) in
-    next (countOf tai) (λ t. utcBy (offsetAt es t) g) (count tai) (λ t. in-range (offsetAt es t) _ (count (pos g -ℤ inNanos (offsetAt es t -ℤ pos 19) +ℤ pos E)))
+    next (countOf tai) (λ t. utcBy (offsetAt es t) g) (count tai)
+    (λ t. in-range (offsetAt es t) _ (count (pos g -ℤ inNanos (offsetAt es t -ℤ pos 19) +ℤ pos E)))
 
 pub utc-to-gps-numbered : (es : List Entry) (u : ℕ) → Numbered (utcToGps es u)
 utc-to-gps-numbered es u =

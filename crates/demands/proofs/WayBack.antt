@@ -1,5 +1,5 @@
--- The way back over a regular list: a third lookup would find what the second found, so the answer is the earliest count; and two counts that share
--- a UTC count have one threshold between them, so they are one second apart.
+-- The way back over a regular list: a third lookup would find what the second found, so the answer is the earliest count;
+-- and two counts that share a UTC count have one threshold between them, so they are one second apart.
 use mathlib.Core.Path.{_≡_, ap, _∙_, subst}
 use mathlib.Core.Logic.{_↔_, _≢_}
 use mathlib.Core.Bool.{true}
@@ -73,7 +73,9 @@ module _ (es : List Entry) (k : ℕ → ℕ) (f : LeapSeconds es k) where
     comes-back : There back u
     comes-back =
         let few = f .few next in
-        (omega arith, to-utc es k f back u (record { tai-fits = omega arith; utc-fits = m; exact = omega (arith, settled) }))
+        let exact : u + k (tai back) * second ≡ back + E = omega (arith, settled) in
+        let read : Reads es k f back u = record { tai-fits = omega arith; utc-fits = m; exact = exact } in
+        (omega arith, to-utc es k f back u read)
 
     -- and no earlier count does
     first-of-all : (g : ℕ) → There g u → back ≤ g
@@ -103,10 +105,14 @@ module _ (es : List Entry) (k : ℕ → ℕ) (f : LeapSeconds es k) where
       go (no h) = absurd (clash (utcToGps es u) e (before-E es k f u (omega (arith, h))))
 
   the-earliest : (u g : ℕ) → u < 2 ^ 64 → utcToGps es u ≡ answered g → (g′ : ℕ) → There g′ u → g ≤ g′
-  the-earliest u g m e = let (l, is) = answer-is u g m e in subst (λ (n : ℕ). (g′ : ℕ) → There g′ u → n ≤ g′) is (first-of-all u l m)
+  the-earliest u g m e =
+      let (l, is) = answer-is u g m e in
+      subst (λ (n : ℕ). (g′ : ℕ) → There g′ u → n ≤ g′) is (first-of-all u l m)
 
   converts-back : (u g : ℕ) → u < 2 ^ 64 → utcToGps es u ≡ answered g → There g u
-  converts-back u g m e = let (l, is) = answer-is u g m e in subst (λ (n : ℕ). There n u) is (comes-back u l m)
+  converts-back u g m e =
+      let (l, is) = answer-is u g m e in
+      subst (λ (n : ℕ). There n u) is (comes-back u l m)
 
   -- two that share a UTC count: the later one is a second and a leap second on
   apart : (g₁ g₂ u : ℕ) → There g₁ u → There g₂ u → g₁ < g₂ → (g₂ ≡ g₁ + second) × (k (tai g₁) < k (tai g₂))

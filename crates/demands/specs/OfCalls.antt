@@ -18,22 +18,24 @@ use Rattle.inplace.proofs.gps_to_utc.Reads as inplace-gps-to-utc
 use Rattle.inplace.proofs.utc_to_gps.Reads as inplace-utc-to-gps
 use Rattle.builtin.proofs.gps_to_utc.Reads as builtin-gps-to-utc
 use Rattle.builtin.proofs.utc_to_gps.Reads as builtin-utc-to-gps
-use Rattle.plaitgate.proofs.by_table.plaitgate_gps_to_utc.Reads as plaitgate-gps-to-utc
-use Rattle.plaitgate.proofs.by_table.plaitgate_utc_to_gps.Reads as plaitgate-utc-to-gps
-use Rattle.plaitgate.proofs.by_builtin.plaitgate_builtin_gps_to_utc.Reads as plaitgate-builtin-gps-to-utc
-use Rattle.plaitgate.proofs.by_builtin.plaitgate_builtin_utc_to_gps.Reads as plaitgate-builtin-utc-to-gps
+use Rattle.plaitgate.proofs.by_table.plaitgate_gps_to_utc.Reads as host-gps-to-utc
+use Rattle.plaitgate.proofs.by_table.plaitgate_utc_to_gps.Reads as host-utc-to-gps
+use Rattle.plaitgate.proofs.by_builtin.plaitgate_builtin_gps_to_utc.Reads as host-builtin-gps-to-utc
+use Rattle.plaitgate.proofs.by_builtin.plaitgate_builtin_utc_to_gps.Reads as host-builtin-utc-to-gps
 use Rattle.demands.specs.TwoInstants.{TwoInstants}
 
 -- what a host is told by a number and a value: an answer where the number is 0, and else a refusal
 abbrev pub told : ℕ → ℕ → Outcome ℕ
 told number value = cond (eqb number 0) (answered value) (refused number)
 
-module _ {Lifetimes : Type 0} {Arguments Answer End : Lifetimes → Type 0} where
+module _ {Lifetimes : Type 0} {Arguments Answer End : Lifetimes → Type 0}
+    (Contract : (κ : Lifetimes) → Arguments κ → Answer κ → End κ → Type 0) where
   -- to arguments that ask so, the contract allows an answer that tells o
-  abbrev pub Allows : ((κ : Lifetimes) → Arguments κ → Answer κ → End κ → Type 0) → ((κ : Lifetimes) → Arguments κ → Type 0)
-      → ((κ : Lifetimes) → Answer κ → End κ → Outcome ℕ) → Outcome ℕ → Type 0
-  Allows Contract Asks tells o =
-      (κ : Lifetimes) × (a : Arguments κ) × (r : Answer κ) × (e : End κ) × Asks κ a × Contract κ a r e × (tells κ r e ≡ o)
+  abbrev pub Allows : (Asks : (κ : Lifetimes) → Arguments κ → Type 0)
+      (tells : (κ : Lifetimes) → Answer κ → End κ → Outcome ℕ) → Outcome ℕ → Type 0
+  Allows Asks tells o =
+      (κ : Lifetimes) × (a : Arguments κ) × (r : Answer κ) × (e : End κ)
+      × Asks κ a × Contract κ a r e × (tells κ r e ≡ o)
 
 -- whatever two calls answer to each count of 64 bits, as far as they are allowed to
 abbrev pub TwoInstantsOf : List Entry → (There Back : ℕ → Outcome ℕ → Type 0) → Type 0
@@ -60,9 +62,9 @@ pub record Demand3 : Type 0 where
       (λ u. Allows builtin-utc-to-gps.Post (λ κ a. a .0 .0 ≡ u) (λ κ r e. gpsIn r))
   -- `plaitgate_gps_to_utc` and `plaitgate_utc_to_gps`, by an image
   pub exported : (b : List ℕ) → Regular (tableOfImage b) → TwoInstantsOf (entriesOf (tableOfImage b))
-      (λ g. Allows plaitgate-gps-to-utc.Post (λ κ a. (a .0 ≡ g) × (now (a .1 .0) ≡ b)) (λ κ k e. told k (now (e .1 .1 .0))))
-      (λ u. Allows plaitgate-utc-to-gps.Post (λ κ a. (a .0 ≡ u) × (now (a .1 .0) ≡ b)) (λ κ k e. told k (now (e .1 .1 .0))))
+      (λ g. Allows host-gps-to-utc.Post (λ κ a. (a .0 ≡ g) × (now (a .1 .0) ≡ b)) (λ κ k e. told k (now (e .1 .1 .0))))
+      (λ u. Allows host-utc-to-gps.Post (λ κ a. (a .0 ≡ u) × (now (a .1 .0) ≡ b)) (λ κ k e. told k (now (e .1 .1 .0))))
   -- `plaitgate_builtin_gps_to_utc` and `plaitgate_builtin_utc_to_gps`
   pub exported-built-in : TwoInstantsOf builtin
-      (λ g. Allows plaitgate-builtin-gps-to-utc.Post (λ κ a. a .0 ≡ g) (λ κ k e. told k (now (e .1 .0))))
-      (λ u. Allows plaitgate-builtin-utc-to-gps.Post (λ κ a. a .0 ≡ u) (λ κ k e. told k (now (e .1 .0))))
+      (λ g. Allows host-builtin-gps-to-utc.Post (λ κ a. a .0 ≡ g) (λ κ k e. told k (now (e .1 .0))))
+      (λ u. Allows host-builtin-utc-to-gps.Post (λ κ a. a .0 ≡ u) (λ κ k e. told k (now (e .1 .0))))

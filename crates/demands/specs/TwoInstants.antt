@@ -26,8 +26,8 @@ pub record TwoInstants (es : List Entry) (there back : ℕ → Outcome ℕ) : Ty
   pub the-earliest : (u g : ℕ) → u < 2 ^ 64 → back u ≡ answered g → (g′ : ℕ) → Converts there g′ u → g ≤ g′
   -- which converts back exactly.
   pub converts-back : (u g : ℕ) → u < 2 ^ 64 → back u ≡ answered g → Converts there g u
-  -- Two different GPS counts that both convert share a UTC count exactly if they are one second apart and the later one's TAI reading
-  -- lies in the first second from the threshold of an entry after the first.
+  -- Two different GPS counts that both convert share a UTC count exactly if they are one second apart and the later
+  -- one's TAI reading lies in the first second from the threshold of an entry after the first.
   pub shared-exactly : (g₁ g₂ u₁ u₂ : ℕ) → Converts there g₁ u₁ → Converts there g₂ u₂ → g₁ < g₂
       → (u₁ ≡ u₂) ↔ ((g₂ ≡ g₁ + second) × InFirstSecond es (g₂ + taiMinusGps))
   -- No three share one.

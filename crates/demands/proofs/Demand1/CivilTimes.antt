@@ -17,23 +17,28 @@ days-from-unix κ a k e = zeros-beside (daysFromUnix (on (a .0) (a .1 .0) (a .1 
 pub days-until : ZerosBeside civil_dates.plaitgate_civil_date_days_until.Reads.Post
     (pos 0) (λ κ e. now (e .1 .1 .1 .1 .1 .1 .0))
 days-until κ a k e =
-    zeros-beside (daysUntil (on (a .0) (a .1 .0) (a .1 .1 .0)) (on (a .1 .1 .1 .0) (a .1 .1 .1 .1 .0) (a .1 .1 .1 .1 .1 .0)))
+    let b = a .1 .1 .1 in
+    zeros-beside (daysUntil (on (a .0) (a .1 .0) (a .1 .1 .0)) (on (b .0) (b .1 .0) (b .1 .1 .0)))
 
 pub seconds-until : ZerosBeside civil_dates.plaitgate_civil_date_seconds_until.Reads.Post
     (pos 0) (λ κ e. now (e .1 .1 .1 .1 .1 .1 .0))
 seconds-until κ a k e =
-    zeros-beside (secondsUntil (on (a .0) (a .1 .0) (a .1 .1 .0)) (on (a .1 .1 .1 .0) (a .1 .1 .1 .1 .0) (a .1 .1 .1 .1 .1 .0)))
+    let b = a .1 .1 .1 in
+    zeros-beside (secondsUntil (on (a .0) (a .1 .0) (a .1 .1 .0)) (on (b .0) (b .1 .0) (b .1 .1 .0)))
 
 pub nanos-until : ZerosBeside civil_dates.plaitgate_civil_date_nanos_until.Reads.Post
     (pos 0) (λ κ e. now (e .1 .1 .1 .1 .1 .1 .0))
 nanos-until κ a k e =
-    zeros-beside (nanosUntil (on (a .0) (a .1 .0) (a .1 .1 .0)) (on (a .1 .1 .1 .0) (a .1 .1 .1 .1 .0) (a .1 .1 .1 .1 .1 .0)))
+    let b = a .1 .1 .1 in
+    zeros-beside (nanosUntil (on (a .0) (a .1 .0) (a .1 .1 .0)) (on (b .0) (b .1 .0) (b .1 .1 .0)))
 
 pub to-utc-nanos : ZerosBeside civil_times.plaitgate_civil_to_utc_nanos.Reads.Post
     0 (λ κ e. now (e .1 .1 .1 .1 .1 .1 .1 .0))
 to-utc-nanos κ a k e =
-    zeros-beside (countAt (fields (a .0) (a .1 .0) (a .1 .1 .0) (a .1 .1 .1 .0) (a .1 .1 .1 .1 .0) (a .1 .1 .1 .1 .1 .0) (a .1 .1 .1 .1 .1 .1 .0)))
+    let b = a .1 .1 .1 in
+    zeros-beside (countAt (fields (a .0) (a .1 .0) (a .1 .1 .0) (b .0) (b .1 .0) (b .1 .1 .0) (b .1 .1 .1 .0)))
 
 pub to-utc : ZerosBeside civil_times.plaitgate_civil_to_utc.Reads.Post 0 (λ κ e. now (e .1 .1 .1 .1 .1 .1 .1 .0))
 to-utc κ a k e =
-    zeros-beside (countAt (fields (a .0) (a .1 .0) (a .1 .1 .0) (a .1 .1 .1 .0) (a .1 .1 .1 .1 .0) (a .1 .1 .1 .1 .1 .0) (a .1 .1 .1 .1 .1 .1 .0)))
+    let b = a .1 .1 .1 in
+    zeros-beside (countAt (fields (a .0) (a .1 .0) (a .1 .1 .0) (b .0) (b .1 .0) (b .1 .1 .0) (b .1 .1 .1 .0)))

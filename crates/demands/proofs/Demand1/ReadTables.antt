@@ -18,7 +18,8 @@ pub is-empty : ZerosBeside leap_tables.plaitgate_table_is_empty.Reads.Post 0 (λ
 is-empty κ a k e = zeros-beside (changed bit (byImage (now (a .0)) (λ es. answered (eqb (length es) 0))))
 
 pub entry-at : ZerosBeside leap_tables.plaitgate_table_entry_at.Reads.Post
-    (foundAs 0 (entry 0 (pos 0))) (λ κ e. foundAs (now (e .1 .1 .0)) (entry (now (e .1 .1 .1 .0)) (now (e .1 .1 .1 .1 .0))))
+    (foundAs 0 (entry 0 (pos 0)))
+    (λ κ e. foundAs (now (e .1 .1 .0)) (entry (now (e .1 .1 .1 .0)) (now (e .1 .1 .1 .1 .0))))
 entry-at κ a k e = zeros-beside (changed foundEntry (byImage (now (a .0)) (λ es. answered (getElem? es (a .1 .0)))))
 
 pub last-update : ZerosBeside leap_tables.plaitgate_table_last_update.Reads.Post

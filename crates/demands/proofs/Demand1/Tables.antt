@@ -18,16 +18,19 @@ kept : (t : LeapTable) (e : LeapEntry) {k : ℕ} {left : LeapTable} → (k, left
 kept t e p n =
     ap (λ (y : ℕ × LeapTable). y .1) p ∙ refusal-keeps t e (λ z. n (ap (λ (y : ℕ × LeapTable). y .0) p ∙ z))
 
-pub try-extend : TableKept LeapTable.try_extend.Reads.Post (λ κ x. takenIn (x .answer)) (λ κ x e. x .table) (λ κ a. a .0)
+pub try-extend : TableKept LeapTable.try_extend.Reads.Post
+    (λ κ x. takenIn (x .answer)) (λ κ x e. x .table) (λ κ a. a .0)
 try-extend κ a x e = kept (a .0) (a .1 .0)
 
-pub from-lists : TableEmpty LeapTable.from_lists.Reads.Post (λ κ x. takenIn (x .answer)) (λ κ x e. x .table)
+pub from-lists : TableEmpty LeapTable.from_lists.Reads.Post
+    (λ κ x. takenIn (x .answer)) (λ κ x e. x .table)
 from-lists κ a x e p n =
     ap (λ (y : ℕ × LeapTable). y .1) p
     ∙ building-refused (paired (now (a .0)) (now (a .1 .0))) (λ z. n (ap (λ (y : ℕ × LeapTable). y .0) p ∙ z))
 
 -- in place, of the fact that the call's contract states
-pub try-extend-in-place : (says : Fact lent-try-extend.ended) × States lent-try-extend.ended (λ M 𝓤 H. lent-try-extend.clauses 𝓤 H) says
+pub try-extend-in-place : (says : Fact lent-try-extend.ended)
+    × States lent-try-extend.ended (λ M 𝓤 H. lent-try-extend.clauses 𝓤 H) says
     × TableKept says (λ κ r. takenIn r) (λ κ r e. e .0 .now) (λ κ a. a .0 .now)
 try-extend-in-place = (
   λ κ a r e. (takenIn r, e .0 .now) ≡ extended (a .0 .now) (a .1 .0),

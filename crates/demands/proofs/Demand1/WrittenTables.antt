@@ -52,12 +52,16 @@ from-entries κ a k e p n s =
     let given = builtFrom (now (a .0)) in
     let q : leaves k (now (e .1 .0)) ≡ (given .0, imageOf (given .1)) =
     p ∙ sym (of-size (now (a .1 .0)) (given .0, imageOf (given .1)) (8, now (a .1 .0)) s) in
+    let not-done : given .0 ≢ 0 = λ z. n (ap (λ (x : ℕ × List ℕ). x .0) q ∙ z) in
     ap (λ (x : ℕ × List ℕ). x .1) q
-    ∙ ap imageOf (built-empty (eqb (length (now (a .0)) % 12) 0) (entriesIn (now (a .0))) (λ z. n (ap (λ (x : ℕ × List ℕ). x .0) q ∙ z)))
+    ∙ ap imageOf (built-empty (eqb (length (now (a .0)) % 12) 0) (entriesIn (now (a .0))) not-done)
 
 -- or leaves bytes that are no image
-pub from-entries-no-image : (κ : _) (a : _) (k : ℕ) (e : _) → leap_tables.plaitgate_table_from_entries.Reads.Post κ a k e
+pub from-entries-no-image : (κ : _) (a : _) (k : ℕ) (e : _)
+    → leap_tables.plaitgate_table_from_entries.Reads.Post κ a k e
     → length (now (a .1 .0)) ≢ imageBytes → now (e .1 .0) ≡ now (a .1 .0)
 from-entries-no-image κ a k e p s =
     let given = builtFrom (now (a .0)) in
-    ap (λ (x : ℕ × List ℕ). x .1) (p ∙ sym (not-of-size (now (a .1 .0)) (given .0, imageOf (given .1)) (8, now (a .1 .0)) s))
+    let q : leaves k (now (e .1 .0)) ≡ (8, now (a .1 .0)) =
+    p ∙ sym (not-of-size (now (a .1 .0)) (given .0, imageOf (given .1)) (8, now (a .1 .0)) s) in
+    ap (λ (x : ℕ × List ℕ). x .1) q
