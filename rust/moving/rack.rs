@@ -40,6 +40,36 @@ macro_rules! sums {
     };
 }
 
+/// A duration of so many of each unit, and sums of two durations.
+fn durations(count: i64) {
+    let d = Duration::from_nanos(count);
+    println!("{} {} {} {}", d.as_nanos(), d.as_micros(), d.as_millis(), d.as_seconds());
+    println!("{} {} {} {:?}", d.is_positive(), d.is_negative(), d.is_zero(), d.abs().map(Duration::as_nanos));
+    for checked_from in [
+        Duration::checked_from_micros,
+        Duration::checked_from_millis,
+        Duration::checked_from_seconds,
+        Duration::checked_from_minutes,
+        Duration::checked_from_hours,
+        Duration::checked_from_days,
+    ] {
+        // the unit's last count that fits and the first that does not, on both sides, lie near the quotients of the ends
+        let unit = checked_from(1).map_or(1, Duration::as_nanos);
+        for near in [count, i64::MAX / unit, i64::MIN / unit] {
+            for k in [near.saturating_sub(1), near, near.saturating_add(1)] {
+                println!("{:?}", checked_from(k).map(Duration::as_nanos));
+            }
+        }
+    }
+    for other in [Duration::MIN, Duration::from_nanos(-1), Duration::ZERO, Duration::ONE_NANOSECOND, Duration::MAX] {
+        println!("{:?} {}", d.checked_add(other).map(Duration::as_nanos), d.saturating_add(other).as_nanos());
+        println!("{:?} {}", d.checked_sub(other).map(Duration::as_nanos), d.saturating_sub(other).as_nanos());
+        println!("{:?}", d.try_add(other).map(Duration::as_nanos).map_err(why));
+        println!("{:?}", d.try_sub(other).map(Duration::as_nanos).map_err(why));
+        println!("{}", d < other);
+    }
+}
+
 fn weeks_and_days(count: u64) {
     let gps = Time::<Gps>::from_nanos(count);
     println!("{} {} {}", gps.week(), gps.tow_seconds(), gps.sub_second_nanos());
@@ -122,6 +152,7 @@ fn main() -> Result<(), LeapExtendError> {
         sums!(Utc, count);
         sums!(Glonass, count);
         sums!(Tai, count);
+        durations(count as i64);
         weeks_and_days(count);
         unix_and_civil(count);
         built_in(count);

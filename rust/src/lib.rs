@@ -1,9 +1,10 @@
 //! GPS, UTC, GLONASS and TAI counts into each other, into Unix time, into weeks, days and civil dates, for hosts in
 //! Rust. The work is done by Plaitgate's library, every function of which is proved against its contract; this crate
-//! gives its calls the names and shapes they have in gnss-time, and computes nothing itself.
+//! gives its calls the names and shapes they have in gnss-time. It computes one thing itself, by `core`'s checked
+//! arithmetic: the units and sums of a [`Duration`].
 //!
-//! Every call takes every input: it answers, or it refuses with an [`Error`], which has a number, or with `None` where
-//! gnss-time has it so. None panics.
+//! Every call is total: any input gets an answer or a refusal. A refusal is an [`Error`], which has a number, or `None`
+//! where gnss-time has it so. No call panics.
 //!
 //! ```
 //! use plaitgate::{DurationParts, Gps};
@@ -22,8 +23,8 @@
 //! A program that uses gnss-time moves over by its imports: [`Time`], [`GnssTimeError`], [`LeapExtendError`] and
 //! [`RuntimeLeapSeconds`] are here as other names. docs/MOVING.md has the calls side by side.
 //!
-//! The library is `libplaitgate.a`. build.rs takes the one in the folder that the variable `PLAITGATE_LIB_DIR` names, else
-//! the one that Plaitgate's tools make beside this crate, and has it made where it is missing.
+//! The library is `libplaitgate.a`. build.rs links the one in the folder that the variable `PLAITGATE_LIB_DIR` names, else
+//! the one that Plaitgate's tools make beside this crate, anew whenever a source of the library has changed.
 
 #![cfg_attr(not(any(feature = "std", test)), no_std)]
 #![warn(missing_debug_implementations, unused_must_use)]

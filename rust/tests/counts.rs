@@ -41,6 +41,43 @@ sums_of!(sums_of_utc_counts, Utc);
 sums_of!(sums_of_glonass_counts, Glonass);
 sums_of!(sums_of_tai_counts, Tai);
 
+/// For each unit the largest and the least count of which the nanoseconds fit 64 bits, and the next, which is none.
+#[test]
+fn durations_of_each_unit_at_their_ends() {
+    let units: [(fn(i64) -> Option<Duration>, i64, i64); 6] = [
+        (Duration::checked_from_micros, 9_223_372_036_854_775, 1_000),
+        (Duration::checked_from_millis, 9_223_372_036_854, 1_000_000),
+        (Duration::checked_from_seconds, 9_223_372_036, 1_000_000_000),
+        (Duration::checked_from_minutes, 153_722_867, 60_000_000_000),
+        (Duration::checked_from_hours, 2_562_047, 3_600_000_000_000),
+        (Duration::checked_from_days, 106_751, 86_400_000_000_000),
+    ];
+    for (checked_from, last, nanos) in units {
+        assert_eq!(checked_from(last), Some(Duration::from_nanos(last * nanos)));
+        assert_eq!(checked_from(-last), Some(Duration::from_nanos(-last * nanos)));
+        assert_eq!(checked_from(last + 1), None);
+        assert_eq!(checked_from(-last - 1), None);
+        assert_eq!(checked_from(i64::MIN), None);
+    }
+    // in 64 bits this many seconds would wrap to 290,448,384 ns
+    assert_eq!(Duration::checked_from_seconds(18_446_744_074), None);
+}
+
+#[test]
+fn durations_at_their_ends() {
+    let (least, largest, one) = (Duration::MIN, Duration::MAX, Duration::ONE_NANOSECOND);
+    assert_eq!((least.abs(), least.checked_neg()), (None, None));
+    assert_eq!((largest.abs(), largest.checked_neg()), (Some(largest), least.checked_add(one)));
+    assert_eq!((largest.checked_add(one), least.checked_sub(one)), (None, None));
+    assert_eq!((largest.try_add(one), least.try_sub(one)), (Err(Error::Overflow), Err(Error::Overflow)));
+    assert_eq!((largest.saturating_add(one), least.saturating_sub(one)), (largest, least));
+    assert_eq!(
+        (least.as_micros(), least.as_millis(), least.as_seconds()),
+        (-9_223_372_036_854_775, -9_223_372_036_854, -9_223_372_036)
+    );
+    assert!(least.is_negative() && largest.is_positive() && Duration::ZERO.is_zero());
+}
+
 /// Numbers that are spread over all of 64 bits, and those beside the ends.
 fn spread() -> impl Iterator<Item = u64> {
     let step = 0x9e37_79b9_7f4a_7c15_u64;
