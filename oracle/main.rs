@@ -23,7 +23,8 @@ mod slips;
 use std::process::ExitCode;
 
 const USAGE: &str = "\
-usage: oracle/run [--seed N] [--count N] [--record FILE]
+usage: oracle/run [--native] [--seed N] [--count N] [--record FILE]
+  --native       as the first word: for the processor of this machine, with 20000 random inputs
   --seed N       where the random inputs start (20260101); the same seed gives the same run
   --count N      random inputs for each call, after all its edges (100000)
   --record FILE  first write the recorded list of the crate's answers to FILE";
@@ -83,7 +84,8 @@ fn options() -> Option<Options> {
 }
 
 fn run(calls: &[call::Call], seed: u64, count: u64) -> ExitCode {
-    println!("oracle: seed {seed}, all edges and {count} random inputs for each call");
+    let processor = std::env::consts::ARCH;
+    println!("oracle: for {processor}, seed {seed}, all edges and {count} random inputs for each call");
     println!("{:<32} {:>11} {:>11} {:>16}", "call", "comparisons", "refusals", "crate panicked");
     let mut comparisons = 0;
     let mut differences = 0;
@@ -102,7 +104,7 @@ fn run(calls: &[call::Call], seed: u64, count: u64) -> ExitCode {
     println!("oracle: {} lengths between epochs, as in the crate", epochs::COUNT);
     println!("oracle: {} examples, answered alike by both", examples::COUNT);
     println!("oracle: {} slips, each wrong where the port is right", slips::COUNT);
-    println!("oracle: {comparisons} comparisons of {} calls, no difference", calls.len());
+    println!("oracle: {comparisons} comparisons of {} calls for {processor}, no difference", calls.len());
     ExitCode::SUCCESS
 }
 
