@@ -29,7 +29,7 @@ pub enum Error {
     EmptyTable,
     /// 7: the offset before is 2,147,483,647.
     OffsetOverflow,
-    /// 8: bytes handed in as a table's image hold no valid table.
+    /// 8: bytes handed in as a table's image hold no valid table, or those of a list are no whole number of entries.
     BadTable,
     /// 9: the offset used last is below −2,147,483,629.
     OffsetRange,
