@@ -8,6 +8,7 @@ mod calls;
 mod chance;
 mod compare;
 mod dates;
+mod differences;
 mod epochs;
 mod examples;
 mod header;
@@ -65,6 +66,10 @@ fn main() -> ExitCode {
     if !other_slips.is_empty() {
         return failed(&format!("slips answer otherwise\n{}", other_slips.join("\n")));
     }
+    let untrue = differences::differences();
+    if !untrue.is_empty() {
+        return failed(&format!("docs/DIFFERENCES.md is not true of the crate\n{}", untrue.join("\n")));
+    }
     run(&calls, options.seed, options.count)
 }
 
@@ -104,6 +109,7 @@ fn run(calls: &[call::Call], seed: u64, count: u64) -> ExitCode {
     println!("oracle: {} lengths between epochs, as in the crate", epochs::COUNT);
     println!("oracle: {} examples, answered alike by both", examples::COUNT);
     println!("oracle: {} slips, each wrong where the port is right", slips::COUNT);
+    println!("oracle: {} sentences of docs/DIFFERENCES.md, true of the crate", differences::count());
     println!("oracle: {comparisons} comparisons of {} calls for {processor}, no difference", calls.len());
     ExitCode::SUCCESS
 }
