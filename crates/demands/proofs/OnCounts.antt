@@ -9,7 +9,7 @@ use Rattle.demands.specs.TwoInstants.{Converts, TwoInstants}
 
 converts-too : {f f′ : ℕ → Outcome ℕ} → ((g : ℕ) → g < 2 ^ 64 → f g ≡ f′ g)
     → {g u : ℕ} → Converts f g u → Converts f′ g u
-converts-too same {g} (count, gives) = (count, sym (same g count) ∙ gives)
+converts-too same {g} (count, gives) = (count, sym (same g (omega (arith, count))) ∙ gives)
 
 module _ (es : List Entry) {there there′ back back′ : ℕ → Outcome ℕ}
     (to : (g : ℕ) → g < 2 ^ 64 → there′ g ≡ there g) (from : (u : ℕ) → u < 2 ^ 64 → back′ u ≡ back u) where

@@ -1,7 +1,7 @@
 -- The way back over a regular list: a third lookup would find what the second found, so the answer is the earliest count;
 -- and two counts that share a UTC count have one threshold between them, so they are one second apart.
 use mathlib.Core.Path.{_≡_, ap, _∙_, subst}
-use mathlib.Core.Logic.{_↔_, _≢_}
+use mathlib.Core.Logic.{_≢_}
 use mathlib.Core.Bool.{true}
 use mathlib.Core.List.{List}
 use Prim.Native.Nat.{ℕ, _+_, _*_, _-_, _^_, _≤_, _<_}
@@ -12,7 +12,7 @@ use Rattle.refusals.specs.Outcome.{Outcome, answered, refused}
 use Rattle.counts.specs.Units.{second}
 use Rattle.tables.specs.Entries.{Entry, regular}
 use Rattle.conversions.specs.Conversions.{E, gpsToUtc, utcToGps}
-use Rattle.demands.specs.TwoInstants.{Converts, InFirstSecond, TwoInstants}
+use Rattle.demands.specs.TwoInstants.{Converts, TwoInstants}
 use Rattle.tables.proofs.Passed.{Between}
 use Rattle.demands.proofs.LeapSeconds.{LeapSeconds, leaps, counted}
 use Rattle.demands.proofs.OnNaturals.{tai, Reads, to-utc, from-gps, before-E, from-E, a, b}
@@ -86,15 +86,10 @@ module _ (es : List Entry) (k : ℕ → ℕ) (f : LeapSeconds es k) where
         let from-next = f .rises next (tai g) (omega (arith, r .exact)) in
         omega (arith, r .exact)
 
-  refused-exactly : (u : ℕ) → u < 2 ^ 64 → ((n : ℕ) × (utcToGps es u ≡ refused n)) ↔ ((g : ℕ) → There g u → ⊥)
-  refused-exactly u m = (none, go (decLe E u))
-    where
-      none : (n : ℕ) × (utcToGps es u ≡ refused n) → (g : ℕ) → There g u → ⊥
-      none r g c = clash (utcToGps es u) (from-E es k f u (not-before-E g u c) m) (r .1)
-
-      go : Dec (E ≤ u) → ((g : ℕ) → There g u → ⊥) → (n : ℕ) × (utcToGps es u ≡ refused n)
-      go (yes h) n = absurd (n (back u h m) (comes-back u h m))
-      go (no h) n = (1, before-E es k f u (omega (arith, h)))
+  -- where nothing converts, the count is before E
+  refused-else : (u : ℕ) → u < 2 ^ 64 → ((g : ℕ) → There g u → ⊥) → Dec (E ≤ u) → (n : ℕ) × (utcToGps es u ≡ refused n)
+  refused-else u m none (yes h) = absurd (none (back u h m) (comes-back u h m))
+  refused-else u m none (no h) = (1, before-E es k f u (omega (arith, h)))
 
   -- an answer is the one from E on
   answer-is : (u g : ℕ) (m : u < 2 ^ 64) → utcToGps es u ≡ answered g → (l : E ≤ u) × (back u l m ≡ g)
@@ -103,16 +98,6 @@ module _ (es : List Entry) (k : ℕ → ℕ) (f : LeapSeconds es k) where
       go : Dec (E ≤ u) → (l : E ≤ u) × (back u l m ≡ g)
       go (yes h) = (h, same (utcToGps es u) (from-E es k f u h m) e)
       go (no h) = absurd (clash (utcToGps es u) e (before-E es k f u (omega (arith, h))))
-
-  the-earliest : (u g : ℕ) → u < 2 ^ 64 → utcToGps es u ≡ answered g → (g′ : ℕ) → There g′ u → g ≤ g′
-  the-earliest u g m e =
-      let (l, is) = answer-is u g m e in
-      subst (λ (n : ℕ). (g′ : ℕ) → There g′ u → n ≤ g′) is (first-of-all u l m)
-
-  converts-back : (u g : ℕ) → u < 2 ^ 64 → utcToGps es u ≡ answered g → There g u
-  converts-back u g m e =
-      let (l, is) = answer-is u g m e in
-      subst (λ (n : ℕ). There n u) is (comes-back u l m)
 
   -- two that share a UTC count: the later one is a second and a leap second on
   apart : (g₁ g₂ u : ℕ) → There g₁ u → There g₂ u → g₁ < g₂ → (g₂ ≡ g₁ + second) × (k (tai g₁) < k (tai g₂))
@@ -123,21 +108,6 @@ module _ (es : List Entry) (k : ℕ → ℕ) (f : LeapSeconds es k) where
       let one = f .one-in-a-day (tai g₁) (tai g₂) (omega arith) in
       (omega arith, omega arith)
 
-  shared-exactly : (g₁ g₂ u₁ u₂ : ℕ) → There g₁ u₁ → There g₂ u₂ → g₁ < g₂
-      → (u₁ ≡ u₂) ↔ ((g₂ ≡ g₁ + second) × InFirstSecond es (tai g₂))
-  shared-exactly g₁ g₂ u₁ u₂ c₁ c₂ l = (
-    λ e.
-        let (d, more) = apart g₁ g₂ u₂ (subst (λ (u : ℕ). There g₁ u) e c₁) c₂ l in
-        let i = f .more-by-an-entry (tai g₁) (tai g₂) more in
-        (omega arith, (i .entry, i .among, omega (arith, i .by), omega (arith, i .after))),
-    λ (d, (e, later, begun, within)).
-        let between : Between (drop 1 es) (tai g₁) (tai g₂) =
-        record { entry = e; among = later; after = omega (arith, within); by = omega (arith, begun) } in
-        let more = f .an-entry-more (tai g₁) (tai g₂) between in
-        let one = f .one-in-a-day (tai g₁) (tai g₂) (omega arith) in
-        omega (arith, reads c₁ .exact, reads c₂ .exact),
-  )
-
   -- whichever of two different counts is the later
   a-second : (g₁ g₂ u : ℕ) → There g₁ u → There g₂ u → g₁ ≢ g₂ → distance g₁ g₂ ≡ second
   a-second g₁ g₂ u c₁ c₂ n = go (decLt g₁ g₂)
@@ -146,18 +116,29 @@ module _ (es : List Entry) (k : ℕ → ℕ) (f : LeapSeconds es k) where
       go (yes h) = omega (arith, apart g₁ g₂ u c₁ c₂ h .0)
       go (no h) = omega (arith, apart g₂ g₁ u c₂ c₁ (omega (arith, h, n)) .0)
 
-  at-most-two : (g₁ g₂ g₃ u : ℕ) → There g₁ u → There g₂ u → There g₃ u → g₁ ≢ g₂ → g₂ ≢ g₃ → g₁ ≢ g₃ → ⊥
-  at-most-two g₁ g₂ g₃ u c₁ c₂ c₃ n₁ n₂ n₃ =
-      no-three g₁ g₂ g₃ (a-second g₁ g₂ u c₁ c₂ n₁) (a-second g₂ g₃ u c₂ c₃ n₂) (a-second g₁ g₃ u c₁ c₃ n₃)
+  two-instants : TwoInstants es (gpsToUtc es) (utcToGps es)
+  two-instants = record {
+    refused-exactly = λ u m. (
+      λ (n, r) g c. clash (utcToGps es u) (from-E es k f u (not-before-E g u c) m) r,
+      λ none. refused-else u m none (decLe E u),
+    );
+    the-earliest = λ u g m e g′ c. let (l, is) = answer-is u g m e in omega (arith, is, first-of-all u l m g′ c);
+    converts-back = λ u g m e. let (l, is) = answer-is u g m e in subst (λ (n : ℕ). There n u) is (comes-back u l m);
+    shared-exactly = λ g₁ g₂ u₁ u₂ c₁ c₂ l. (
+      λ e.
+          let (d, more) = apart g₁ g₂ u₂ (subst (λ (u : ℕ). There g₁ u) e c₁) c₂ l in
+          let i = f .more-by-an-entry (tai g₁) (tai g₂) more in
+          (omega arith, (i .entry, i .among, omega (arith, i .by), omega (arith, i .after))),
+      λ (d, (e, later, begun, within)).
+          let between : Between (drop 1 es) (tai g₁) (tai g₂) =
+          record { entry = e; among = later; after = omega (arith, within); by = omega (arith, begun) } in
+          let more = f .an-entry-more (tai g₁) (tai g₂) between in
+          let one = f .one-in-a-day (tai g₁) (tai g₂) (omega arith) in
+          omega (arith, reads c₁ .exact, reads c₂ .exact),
+    );
+    at-most-two = λ g₁ g₂ g₃ u c₁ c₂ c₃ n₁ n₂ n₃.
+        no-three g₁ g₂ g₃ (a-second g₁ g₂ u c₁ c₂ n₁) (a-second g₂ g₃ u c₂ c₃ n₂) (a-second g₁ g₃ u c₁ c₃ n₃);
+  }
 
 pub by-a-regular-list : (es : List Entry) → regular es ≡ true → TwoInstants es (gpsToUtc es) (utcToGps es)
-by-a-regular-list es r =
-    let k = leaps es in
-    let f = counted es r in
-    record {
-      refused-exactly = refused-exactly es k f;
-      the-earliest = the-earliest es k f;
-      converts-back = converts-back es k f;
-      shared-exactly = shared-exactly es k f;
-      at-most-two = at-most-two es k f;
-    }
+by-a-regular-list es r = two-instants es (leaps es) (counted es r)
