@@ -1,4 +1,4 @@
--- Beside a refusal of a civil date or time a host is given zeros.
+-- Civil dates and times: each call gives the number and the value of an outcome, so zeros beside a refusal.
 use lib.IntN.{pos}
 use denote.Ref.{now}
 use Rattle.calendar.specs.Calendar.{on}

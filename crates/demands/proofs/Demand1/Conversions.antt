@@ -1,4 +1,5 @@
--- Beside a refusal of a conversion a host is given zeros, by the built-in table and by an image.
+-- Conversions, by the built-in table and by an image: each call gives the number and the value of an outcome, so zeros
+-- beside a refusal.
 use lib.IntN.{pos}
 use denote.Ref.{now}
 use Rattle.conversions.specs.Conversions.{gpsToUtc, utcToGps, glonassToUtc, utcToGlonass, glonassToGps, gpsToGlonass, unixToGps, gpsToUnix}

@@ -1,4 +1,4 @@
--- Beside a refusal of what is read from a lent list of entries a host is given zeros.
+-- Readers of a lent list: each call gives the number and the value of an outcome, so zeros beside a refusal.
 use lib.Dec.{eqb}
 use lib.ListN.{length}
 use lib.IntN.{pos}

@@ -1,4 +1,4 @@
--- Beside a refusal of what is read from an image a host is given zeros.
+-- Readers of an image: each call gives the number and the value of an outcome, so zeros beside a refusal.
 use lib.Dec.{eqb}
 use lib.ListN.{length, getElem?}
 use lib.IntN.{pos}

@@ -1,4 +1,4 @@
--- Beside a refusal of a count or a duration a host is given zeros.
+-- Counts and durations: each call gives the number and the value of an outcome, so zeros beside a refusal.
 use Prim.Native.Nat.{ℕ, _+_, _*_}
 use lib.IntN.{pos, _+ℤ_, _-ℤ_, _*ℤ_}
 use denote.Ref.{now}

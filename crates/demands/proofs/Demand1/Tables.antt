@@ -1,4 +1,4 @@
--- A refused extension answers the table that came, by value and in place; a refused building one with no entry.
+-- By the definitions a refused extension gives the table that came, and a refused building one with no entry.
 use mathlib.Core.Path.{_≡_, refl, ap, _∙_}
 use mathlib.Core.Logic.{_≢_}
 use Prim.Native.Nat.{ℕ}

@@ -1,4 +1,4 @@
--- A refused call leaves the image that it was to write; a refused building leaves that of the table with no entry.
+-- A refused call writes no byte of its image; only a refused building does, and writes the table with no entry.
 use mathlib.Core.Path.{_≡_, refl, sym, ap, _∙_}
 use mathlib.Core.Logic.{_≢_}
 use mathlib.Core.Bool.{Bool, true, false, cond}
