@@ -43,7 +43,7 @@ fn utc_less(lead: i64) -> i64
 }
 
 // The UTC count less the TAI reading, at an offset.
-fn utc_less_tai(offset: i32) -> i64
+pub fn utc_less_tai(offset: i32) -> i64
     ensures { λ r. ⌜ r ≡ pos E -ℤ inNanos offset ⌝ }
 {
     utc_less(offset as i64)
