@@ -3,6 +3,8 @@ use mathlib.Core.Path.{sym, _∙_}
 use Rattle.refusals.proofs.OneAnswer.{OneAnswer, viewed}
 use Rattle.scales.proofs.Tells.{gps-tells, utc-tells, glonass-tells}
 use Rattle.conversions.proofs.Tells.{unix-tells}
+use Rattle.builtin.proofs.Tells.{event-tells}
+use Rattle.builtin.proofs.events.entry_of_event.Reads as entry-of-event-contract
 use Rattle.builtin.proofs.from_builtin.Reads as from-builtin-contract
 use Rattle.builtin.proofs.tai_minus_utc_at.Reads as tai-minus-utc-at-contract
 use Rattle.builtin.proofs.gps_to_utc.Reads as gps-to-utc-contract
@@ -35,3 +37,6 @@ gps-from-unix-seconds κ a x y e f p q = viewed gps-tells x y p q
 
 pub gps-as-unix-seconds : OneAnswer gps-as-unix-seconds-contract.Post
 gps-as-unix-seconds κ a x y e f p q = viewed unix-tells x y p q
+
+pub entry-of-event : OneAnswer entry-of-event-contract.Post
+entry-of-event κ a x y e f p q = viewed event-tells x y p q

@@ -1,4 +1,6 @@
 pub mod Regular
 pub mod Counted
 pub mod OneLookup
+pub mod EventEntries
+pub mod Tells
 pub mod Calls

@@ -17,14 +17,18 @@ events =
     on (pos 1999) 1 1 ∷ on (pos 2006) 1 1 ∷ on (pos 2009) 1 1 ∷
     on (pos 2012) 7 1 ∷ on (pos 2015) 7 1 ∷ on (pos 2017) 1 1 ∷ []
 
+-- the Unix second of 1980-01-06
+abbrev pub gpsEpochUnix : ℕ
+gpsEpochUnix = 315_964_800
+
 -- (Unix second of the event − 315,964,800 + offset) × 10⁹
-unfoldable pub thresholdOf : Date → ℕ → ℤ
-thresholdOf d n = (dayOf d *ℤ pos daySeconds -ℤ pos 315_964_800 +ℤ pos n) *ℤ pos second
+unfoldable pub thresholdOf : Date → ℤ → ℤ
+thresholdOf d n = (dayOf d *ℤ pos daySeconds -ℤ pos gpsEpochUnix +ℤ n) *ℤ pos second
 
 -- an entry for each event, with offsets from n on
 unfoldable pub entriesFrom : ℕ → List Date → List Entry
 entriesFrom n [] = []
-entriesFrom n (d ∷ ds) = entry (natAbs (thresholdOf d n)) (pos n) ∷ entriesFrom (n + 1) ds
+entriesFrom n (d ∷ ds) = entry (natAbs (thresholdOf d (pos n))) (pos n) ∷ entriesFrom (n + 1) ds
 
 unfoldable pub builtin : List Entry
 builtin = entry 0 (pos 19) ∷ entriesFrom 20 events
