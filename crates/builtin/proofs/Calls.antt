@@ -5,6 +5,7 @@ use Rattle.scales.proofs.Tells.{gps-tells, utc-tells, glonass-tells}
 use Rattle.conversions.proofs.Tells.{unix-tells}
 use Rattle.builtin.proofs.Tells.{event-tells}
 use Rattle.builtin.proofs.events.entry_of_event.Reads as entry-of-event-contract
+use Rattle.builtin.proofs.epochs.ScaleEpoch.leap_seconds.Reads as leap-seconds-contract
 use Rattle.builtin.proofs.from_builtin.Reads as from-builtin-contract
 use Rattle.builtin.proofs.tai_minus_utc_at.Reads as tai-minus-utc-at-contract
 use Rattle.builtin.proofs.gps_to_utc.Reads as gps-to-utc-contract
@@ -40,3 +41,6 @@ gps-as-unix-seconds κ a x y e f p q = viewed unix-tells x y p q
 
 pub entry-of-event : OneAnswer entry-of-event-contract.Post
 entry-of-event κ a x y e f p q = viewed event-tells x y p q
+
+pub leap-seconds : OneAnswer leap-seconds-contract.Post
+leap-seconds κ a x y e f p q = p ∙ sym q
