@@ -2,5 +2,6 @@ pub mod Regular
 pub mod Counted
 pub mod OneLookup
 pub mod EventEntries
+pub mod EpochConstants
 pub mod Tells
 pub mod Calls
