@@ -9,4 +9,5 @@ pub mod CivilTimes
 pub mod ByBuiltin
 pub mod ByTable
 pub mod LeapTables
+pub mod LeapEvents
 pub mod LeapLists

@@ -10,9 +10,11 @@ ghost use Rattle.civil.specs.Fields.{fieldsIn};
 ghost use Rattle.conversions.specs.Answers.{unixIn};
 ghost use Rattle.plaitgate.specs.Civil.{fields};
 ghost use Rattle.tables.specs.Answers.{takenIn, lengthIn, emptyIn, entryIn, updateIn, offsetIn};
-ghost use Rattle.tables.specs.Entries.{entry};
+ghost use Rattle.tables.specs.Entries.{entry, threshold};
+ghost use Rattle.builtin.specs.Events.{eventIn};
 ghost use Rattle.plaitgate.specs.Tables.{changed, bit, foundAs, foundEntry, foundCount};
 ghost use mathlib.Core.Option.{none};
+use builtin::events::EventAnswer;
 use calendar::SpanAnswer;
 use civil::CivilDateTime;
 use conversions::UnixAnswer;
@@ -291,6 +293,22 @@ pub fn offset(answer: OffsetAnswer, out: &mut i32) -> u32
             0
         }
         OffsetAnswer::Refused(r) => {
+            *out = 0;
+            r.number()
+        }
+    }
+}
+
+// The threshold of an event's entry, whose offset the host has.
+pub fn threshold(answer: EventAnswer, out: &mut u64) -> u32
+    ensures { λ r. ⌜ Gives 0 (changed threshold (eventIn answer)) r (now (out .exit)) ⌝ }
+{
+    match answer {
+        EventAnswer::Entry(e) => {
+            *out = e.tai_nanos;
+            0
+        }
+        EventAnswer::Refused(r) => {
             *out = 0;
             r.number()
         }

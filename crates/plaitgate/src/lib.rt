@@ -9,6 +9,7 @@ pub mod durations;
 mod give;
 pub mod glonass;
 pub mod gps;
+pub mod leap_events;
 pub mod leap_lists;
 pub mod leap_tables;
 pub mod tai;
