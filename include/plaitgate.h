@@ -413,6 +413,14 @@ uint32_t plaitgate_table_from_entries(const uint8_t *entries, size_t entries_byt
    is as it was, else it has changed in its number of entries and in the slot behind the last entry. */
 uint32_t plaitgate_table_try_extend(uint8_t *image, size_t image_bytes, uint64_t tai_nanos, int32_t tai_minus_utc);
 
+/* The threshold of a leap-second event, for an entry with the offset that begins then. The date is the UTC day that
+   begins with the new offset, as IERS Bulletin C gives it: 2017-01-01 and 37 give 1167264037 s. It is the UTC count of
+   that midnight, less 252892800 s, plus the offset. (plaitgate_builtin_utc_to_gps and plaitgate_gps_to_tai give the
+   inserted second, one earlier.) Takes any fields, as plaitgate_civil_to_utc_nanos. Refuses by 1 where the date has no
+   UTC count, and where the threshold is below 0 or above 64 bits. */
+uint32_t plaitgate_entry_of_event(int32_t year, uint8_t month, uint8_t day, int32_t tai_minus_utc,
+                                  uint64_t *tai_nanos);
+
 /* The number of entries, 0 to 64. Refuses by 8. */
 uint32_t plaitgate_table_len(const uint8_t *image, size_t image_bytes, uint64_t *len);
 

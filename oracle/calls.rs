@@ -57,6 +57,7 @@ pub fn calls() -> Vec<Call> {
     calls.extend(builtin_calls());
     calls.extend(by_table::calls());
     calls.extend(by_list::calls());
+    calls.push(event_call());
     calls
 }
 
@@ -171,4 +172,19 @@ fn builtin_calls() -> [Call; 9] {
         call!("builtin_gps_as_unix_seconds", (gps: u64) -> (seconds: i64),
             at::<Gps>(gps).as_unix_seconds(LeapSeconds::builtin()), tried on instants::builtin_gps),
     ]
+}
+
+/// The entry of an event, which the crate has no call for: it is not in the recorded list.
+fn event_call() -> Call {
+    let compared = call!("entry_of_event", (year: i32, month: u8, day: u8, tai_minus_utc: i32) -> (tai_nanos: u64),
+        threshold_of_event(CivilDate { year, month, day }, tai_minus_utc), tried on dates::events);
+    Call { recorded: None, ..compared }
+}
+
+/// The crate's count of the date's midnight, less E, plus the offset.
+fn threshold_of_event(date: CivilDate, tai_minus_utc: i32) -> Option<u64> {
+    let CivilDate { year, month, day } = date;
+    let midnight = CivilDateTime { year, month, day, hour: 0, minute: 0, second: 0, nanos: 0 };
+    let utc = i128::from(midnight.to_utc_nanos().ok()?);
+    u64::try_from(utc - dates::UTC_TO_GPS_NANOS + i128::from(tai_minus_utc) * dates::NANOS_PER_SECOND).ok()
 }

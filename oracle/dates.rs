@@ -11,8 +11,10 @@ use std::sync::OnceLock;
 const LEAST_YEAR: i128 = i32::MIN as i128;
 const GREATEST_YEAR: i128 = i32::MAX as i128;
 const GREATEST_BYTE: i128 = u8::MAX as i128;
-const NANOS_PER_SECOND: i128 = 1_000_000_000;
+pub const NANOS_PER_SECOND: i128 = 1_000_000_000;
 const NANOS_PER_DAY: i128 = 86_400 * NANOS_PER_SECOND;
+/// E: 1972-01-01 to 1980-01-06.
+pub const UTC_TO_GPS_NANOS: i128 = 252_892_800 * NANOS_PER_SECOND;
 /// The most whole days whose nanoseconds a signed 64-bit number holds.
 const MOST_DAYS_IN_NANOS: usize = (i64::MAX as i128 / NANOS_PER_DAY) as usize;
 
@@ -244,4 +246,45 @@ fn draw_near_the_last(chance: &mut Chance) -> Vec<i128> {
     let minutes = (seconds - second) / 60;
     let minute = minutes % 60 + 60 * chance.within(0, 3);
     fields(&[&calendar()[UTC_EPOCH_PLACE + day as usize], &[(minutes - minute) / 60, minute, second, nanos]])
+}
+
+/// A date and an offset: the edges of both, and every day of the calendar with an offset that brings its threshold to
+/// the first count and one that brings it to the last, or up to two seconds off.
+pub fn events(_: &'static [Named]) -> Trials {
+    let edges = combinations(vec![years(), months(), days_of_month(), offsets()]);
+    let every_day = Group::new(2 * calendar().len(), |place| {
+        let (day, greatest) = (place / 2, place % 2 == 1);
+        fields(&[&calendar()[day], &[offset_near_an_end(day, greatest, (day % 5) as i128 - 2)]])
+    });
+    Trials { groups: vec![edges, every_day], draw: Box::new(draw_event) }
+}
+
+fn offsets() -> Vec<i128> {
+    let mut offsets = vec![LEAST_YEAR, LEAST_YEAR + 1, GREATEST_YEAR - 1, GREATEST_YEAR];
+    offsets.extend([-252_892_800, -1, 0, 1, 10, 19, 20, 37, 38, 252_892_799, 252_892_800, 252_892_801]);
+    offsets
+}
+
+/// The offset that brings the threshold of a day of the calendar to the first count or to the last, and so many more,
+/// as far as 32 bits hold it.
+fn offset_near_an_end(day: usize, greatest: bool, more: i128) -> i128 {
+    let utc = (day as i128 - UTC_EPOCH_PLACE as i128) * NANOS_PER_DAY;
+    let end = if greatest { i128::from(u64::MAX) } else { 0 };
+    let offset = (end - (utc - UTC_TO_GPS_NANOS)).div_euclid(NANOS_PER_SECOND) + more;
+    offset.clamp(LEAST_YEAR, GREATEST_YEAR)
+}
+
+/// A date and any offset, or a day of the calendar whose threshold is near the first or the last count.
+fn draw_event(chance: &mut Chance) -> Vec<i128> {
+    if chance.below(4) == 0 {
+        let day = chance.below(calendar().len() as u64) as usize;
+        let offset = offset_near_an_end(day, chance.below(2) == 1, chance.within(-100_000, 100_000));
+        return fields(&[&calendar()[day], &[offset]]);
+    }
+    let offset = match chance.below(3) {
+        0 => chance.within(LEAST_YEAR, GREATEST_YEAR),
+        1 => chance.of_length_up_to(31),
+        _ => chance.within(10, 100),
+    };
+    fields(&[&draw_date(chance), &[offset]])
 }

@@ -2,7 +2,7 @@
 //! what the port answers. The wrong code is here, so that the wrong answers are run and not only written.
 
 use crate::images::image;
-use gnss_time::{LeapEntry, LeapSeconds};
+use gnss_time::{utc_to_gps, CivilDateTime, LeapEntry, LeapSeconds};
 
 type Answer = Result<u64, u32>;
 
@@ -22,6 +22,7 @@ extern "C" {
     fn plaitgate_builtin_gps_to_utc(gps: u64, utc: *mut u64) -> u32;
     fn plaitgate_builtin_utc_to_gps(utc: u64, gps: *mut u64) -> u32;
     fn plaitgate_utc_to_gps(utc: u64, image: *const u8, bytes: usize, gps: *mut u64) -> u32;
+    fn plaitgate_entry_of_event(year: i32, month: u8, day: u8, tai_minus_utc: i32, tai_nanos: *mut u64) -> u32;
     fn plaitgate_table_try_extend(image: *mut u8, bytes: usize, tai_nanos: u64, tai_minus_utc: i32) -> u32;
     #[allow(clippy::too_many_arguments)]
     fn plaitgate_civil_to_utc_nanos(
@@ -99,6 +100,14 @@ fn february_31_refused(day: u8) -> Answer {
     }
 }
 
+/// The threshold of an event taken as the TAI reading of its midnight, which is the inserted second's.
+fn event_by_way_of_gps(year: i32) -> Answer {
+    let midnight = CivilDateTime { year, month: 1, day: 1, hour: 0, minute: 0, second: 0, nanos: 0 };
+    let utc = midnight.to_utc().map_err(|_| 1_u32)?;
+    let gps = utc_to_gps(utc, LeapSeconds::builtin()).map_err(|_| 1_u32)?;
+    gps.to_tai().map(|tai| tai.as_nanos()).map_err(|_| 1_u32)
+}
+
 fn slips() -> Vec<Slip> {
     let five_into_2017 = 1_420_156_805_000_000_000;
     let first_threshold = 46_828_801_000_000_000;
@@ -153,10 +162,17 @@ fn slips() -> Vec<Slip> {
             right: Ok(1_614_729_600_000_000_000),
             port: asked(|utc| unsafe { plaitgate_civil_to_utc_nanos(2023, 2, 31, 0, 0, 0, 0, utc) }),
         },
+        Slip {
+            name: "the entry of an event by way of GPS",
+            wrong: event_by_way_of_gps(2017),
+            wrong_is: Ok(1_167_264_036_000_000_000),
+            right: Ok(1_167_264_037_000_000_000),
+            port: asked(|tai| unsafe { plaitgate_entry_of_event(2017, 1, 1, 37, tai) }),
+        },
     ]
 }
 
-pub const COUNT: usize = 6;
+pub const COUNT: usize = 7;
 
 /// What is not as docs/SLIPS.md has it.
 pub fn differences() -> Vec<String> {
