@@ -199,6 +199,8 @@ of_numbers! {
     builtin_gps_to_glonass(gps: u64) -> (glonass: u64);
     builtin_gps_from_unix_seconds(seconds: i64) -> (gps: u64);
     builtin_gps_as_unix_seconds(gps: u64) -> (seconds: i64);
+
+    entry_of_event(year: i32, month: u8, day: u8, tai_minus_utc: i32) -> (tai_nanos: u64);
 }
 
 of_bytes! { declared_of_images:

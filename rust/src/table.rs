@@ -1,7 +1,7 @@
 //! Leap-second tables: the rack's own, and the built-in one.
 
 use crate::sys::{self, always, Image, ENTRY_BYTES, IMAGE_BYTES};
-use crate::{Result, Tai};
+use crate::{CivilDate, Result, Tai};
 use core::fmt;
 
 /// How many entries a table has room for.
@@ -21,6 +21,31 @@ impl LeapEntry {
         LeapEntry { tai_nanos, tai_minus_utc }
     }
 
+    /// The entry of a leap-second event: the UTC date that begins with the new offset, and that offset, as IERS
+    /// Bulletin C gives them. Any fields make a date. Refuses with [`Overflow`](crate::Error::Overflow) before
+    /// 1972-01-01, where the date is past the last UTC count, and where the threshold is no count.
+    ///
+    /// Do not make the threshold of the date's UTC count: that count is the inserted second's too, and
+    /// [`to_gps`](crate::Utc::to_gps) gives the first of the two, a second before the threshold.
+    ///
+    /// ```
+    /// use plaitgate::{CivilDate, CivilDateTime, Error, LeapEntry, LeapTable};
+    ///
+    /// let last = LeapEntry::of_event(CivilDate::new(2017, 1, 1), 37)?;
+    /// assert_eq!(last, LeapEntry::new(1_167_264_037_000_000_000, 37));
+    /// assert_eq!(LeapTable::builtin().entries().last(), Some(last));
+    ///
+    /// let midnight = CivilDateTime { year: 2017, month: 1, day: 1, hour: 0, minute: 0, second: 0, nanos: 0 };
+    /// assert_eq!(midnight.to_utc()?.to_gps()?.to_tai()?.as_nanos(), last.tai_nanos - 1_000_000_000);
+    ///
+    /// assert_eq!(LeapEntry::of_event(CivilDate::new(1971, 12, 31), 10), Err(Error::Overflow));
+    /// # Ok::<(), plaitgate::Error>(())
+    /// ```
+    pub fn of_event(date: CivilDate, tai_minus_utc: i32) -> Result<Self> {
+        let tai_nanos = sys::entry_of_event(date.year, date.month, date.day, tai_minus_utc)?;
+        Ok(LeapEntry { tai_nanos, tai_minus_utc })
+    }
+
     /// The entry in a list of bytes ([`LeapList`](crate::LeapList)): 8 of the threshold, 4 of the offset, low byte first.
     #[must_use]
     pub fn to_bytes(self) -> [u8; 12] {
@@ -37,17 +62,17 @@ impl LeapEntry {
 /// back with [`from_image`](LeapTable::from_image), and no memory beside.
 ///
 /// ```
-/// use plaitgate::{Error, LeapEntry, LeapTable};
+/// use plaitgate::{CivilDate, Error, LeapEntry, LeapTable};
 ///
 /// let mut table = LeapTable::builtin();
 /// assert_eq!((table.len(), table.current_tai_minus_utc()), (19, 37));
 ///
 /// // an offset of 39 cannot follow 37, and the table is as it was
-/// let announced = 2_000_000_000_000_000_000;
-/// assert_eq!(table.try_extend(LeapEntry::new(announced, 39)), Err(Error::NonUnitIncrement));
+/// let announced = CivilDate::new(2035, 1, 1);
+/// assert_eq!(table.try_extend(LeapEntry::of_event(announced, 39)?), Err(Error::NonUnitIncrement));
 /// assert_eq!(table, LeapTable::builtin());
 ///
-/// table.try_extend(LeapEntry::new(announced, 38))?;
+/// table.try_extend(LeapEntry::of_event(announced, 38)?)?;
 /// assert_eq!((table.len(), table.current_tai_minus_utc()), (20, 38));
 /// # Ok::<(), plaitgate::Error>(())
 /// ```
