@@ -32,7 +32,7 @@ static void stamp(uint64_t gps)
 int main(void)
 {
     uint8_t table[PLAITGATE_IMAGE_BYTES], before[PLAITGATE_IMAGE_BYTES];
-    uint64_t gps, length;
+    uint64_t gps, threshold, length;
     int32_t offset;
 
     /* week 1930, the last seconds of 2016 and the first of 2017 */
@@ -42,16 +42,19 @@ int main(void)
     stamp(gps + UINT64_C(2000000000));
     stamp(UINT64_MAX);
 
-    /* a table of the rack's own: the built-in one, extended by an entry that is refused and by one that is taken */
+    /* a table of the rack's own: the built-in one, extended by an entry that is refused and by one that is taken,
+       that of a bulletin that says "from 2035-01-01 on, TAI minus UTC is 38 s" */
     plaitgate_table_from_builtin(table, sizeof table);
     memcpy(before, table, sizeof table);
+    plaitgate_entry_of_event(2035, 1, 1, 39, &threshold);
     printf("an offset of 39 after 37: refused %" PRIu32 "\n",
-           plaitgate_table_try_extend(table, sizeof table, UINT64_C(2000000000000000000), 39));
+           plaitgate_table_try_extend(table, sizeof table, threshold, 39));
     printf("the table is %s\n", memcmp(before, table, sizeof table) == 0 ? "as it was" : "changed");
-    plaitgate_table_try_extend(table, sizeof table, UINT64_C(2000000000000000000), 38);
+    plaitgate_entry_of_event(2035, 1, 1, 38, &threshold);
+    plaitgate_table_try_extend(table, sizeof table, threshold, 38);
     plaitgate_table_len(table, sizeof table, &length);
-    plaitgate_table_tai_minus_utc_at(table, sizeof table, UINT64_C(2000000000000000000), &offset);
-    printf("%" PRIu64 " entries, TAI minus UTC %" PRId32 " s from 2000000000000000000 on\n", length, offset);
+    plaitgate_table_tai_minus_utc_at(table, sizeof table, threshold, &offset);
+    printf("%" PRIu64 " entries, TAI minus UTC %" PRId32 " s from %" PRIu64 " on\n", length, offset, threshold);
     table[0] = 65;
     printf("a length of 65: refused %" PRIu32 "\n", plaitgate_table_len(table, sizeof table, &length));
     return 0;
