@@ -1,12 +1,14 @@
--- Civil dates and times: each call gives the number and the value of an outcome, so zeros beside a refusal.
+-- Civil dates and times, and the entry of an event: each call gives the number and the value of an outcome, so zeros beside a refusal.
 use lib.IntN.{pos}
 use denote.Ref.{now}
 use Rattle.calendar.specs.Calendar.{on}
 use Rattle.calendar.specs.Dates.{daysFromUnix, daysUntil, secondsUntil, nanosUntil}
 use Rattle.civil.specs.Fields.{countAt}
+use Rattle.builtin.specs.Events.{eventThreshold}
 use Rattle.plaitgate.specs.Civil.{fields}
 use Rattle.plaitgate.proofs.civil_dates
 use Rattle.plaitgate.proofs.civil_times
+use Rattle.plaitgate.proofs.leap_events
 use Rattle.demands.specs.RefusalsLeave.{ZerosBeside}
 use Rattle.demands.proofs.Beside.{zeros-beside}
 
@@ -42,3 +44,6 @@ pub to-utc : ZerosBeside civil_times.plaitgate_civil_to_utc.Reads.Post 0 (λ κ 
 to-utc κ a k e =
     let b = a .1 .1 .1 in
     zeros-beside (countAt (fields (a .0) (a .1 .0) (a .1 .1 .0) (b .0) (b .1 .0) (b .1 .1 .0) (b .1 .1 .1 .0)))
+
+pub entry-of-event : ZerosBeside leap_events.plaitgate_entry_of_event.Reads.Post 0 (λ κ e. now (e .1 .1 .1 .1 .0))
+entry-of-event κ a k e = zeros-beside (eventThreshold (on (a .0) (a .1 .0) (a .1 .1 .0)) (a .1 .1 .1 .0))
