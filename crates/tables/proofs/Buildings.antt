@@ -12,7 +12,7 @@ use lib.Seq.{take-append-seam}
 use lib.IntN.{ℤ, pos}
 use Rattle.refusals.specs.declared.Refusal.{Refusal}
 use Rattle.tables.specs.Answers.{takenIn}
-use Rattle.tables.specs.Entries.{Entry, threshold, offset, valid, firstRefusal, checking, buildingRefusal}
+use Rattle.tables.specs.Entries.{Entry, threshold, offset, valid, checking, buildingRefusal}
 use Rattle.tables.specs.Slots.{paired, entriesOf, validTable, tableOf, built}
 use Rattle.tables.specs.declared.LeapTable.{LeapTable}
 use Rattle.tables.specs.declared.Taken.{Taken}

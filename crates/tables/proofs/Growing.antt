@@ -24,7 +24,7 @@ module _ (t : LeapTable) (e : LeapEntry) where
 
   module _ (v : validTable t ≡ true) where
     pub refuses : (k : ℕ) → (k ≡ 0 → ⊥) → k ≡ joinRefusal (entriesOf t) e → (k, t) ≡ extended t e
-    refuses k n r = (rw (ne-eqb k 0 n) at (by-number k (rw v r)))
+    refuses k n r = rw (ne-eqb k 0 n) at (by-number k (rw v r))
 
     pub takes : 0 ≡ joinRefusal (entriesOf t) e → (0, joinedTo t e) ≡ extended t e
     takes r = by-number 0 (rw v r)
@@ -52,7 +52,7 @@ module _ (es : List Entry) where
 
   module _ (p : 0 < length es) (h : length es ≤ 64) where
     pub entry-refused : (k : ℕ) → (k ≡ 0 → ⊥) → k ≡ firstRefusal es → (k, tableOf []) ≡ built es
-    entry-refused k n r = (rw (ne-eqb k 0 n) at (made-by k (rw (le-ltb 64 (length es) h) (r ∙ checks es p))))
+    entry-refused k n r = rw (ne-eqb k 0 n) at (made-by k (rw (le-ltb 64 (length es) h) (r ∙ checks es p)))
 
     pub all-taken : 0 ≡ firstRefusal es → (0, tableOf es) ≡ built es
     all-taken r = made-by 0 (rw (le-ltb 64 (length es) h) (r ∙ checks es p))
