@@ -10,12 +10,6 @@ use Rattle.conversions.proofs.glonass_to_gps.Reads as glonass-to-gps-co
 use Rattle.conversions.proofs.gps_to_glonass.Reads as gps-to-glonass-contract
 use Rattle.conversions.proofs.gps_from_unix_seconds.Reads as gps-from-unix-seconds-contract
 use Rattle.conversions.proofs.gps_as_unix_seconds.Reads as gps-as-unix-seconds-contract
-use Rattle.conversions.proofs.lent.gps_to_utc.Reads as lent-gps-to-utc-contract
-use Rattle.conversions.proofs.lent.utc_to_gps.Reads as lent-utc-to-gps-contract
-use Rattle.conversions.proofs.lent.glonass_to_gps.Reads as lent-glonass-to-gps-contract
-use Rattle.conversions.proofs.lent.gps_to_glonass.Reads as lent-gps-to-glonass-contract
-use Rattle.conversions.proofs.lent.gps_from_unix_seconds.Reads as lent-gps-from-unix-seconds-contract
-use Rattle.conversions.proofs.lent.gps_as_unix_seconds.Reads as lent-gps-as-unix-seconds-contract
 
 pub gps-to-utc : OneAnswer gps-to-utc-contract.Post
 gps-to-utc κ a x y e f p q = viewed utc-tells x y p q
@@ -40,22 +34,3 @@ gps-from-unix-seconds κ a x y e f p q = viewed gps-tells x y p q
 
 pub gps-as-unix-seconds : OneAnswer gps-as-unix-seconds-contract.Post
 gps-as-unix-seconds κ a x y e f p q = viewed unix-tells x y p q
-
--- and the same by lent arrays
-pub lent-gps-to-utc : OneAnswer lent-gps-to-utc-contract.Post
-lent-gps-to-utc κ a x y e f p q = viewed utc-tells x y p q
-
-pub lent-utc-to-gps : OneAnswer lent-utc-to-gps-contract.Post
-lent-utc-to-gps κ a x y e f p q = viewed gps-tells x y p q
-
-pub lent-glonass-to-gps : OneAnswer lent-glonass-to-gps-contract.Post
-lent-glonass-to-gps κ a x y e f p q = viewed gps-tells x y p q
-
-pub lent-gps-to-glonass : OneAnswer lent-gps-to-glonass-contract.Post
-lent-gps-to-glonass κ a x y e f p q = viewed glonass-tells x y p q
-
-pub lent-gps-from-unix-seconds : OneAnswer lent-gps-from-unix-seconds-contract.Post
-lent-gps-from-unix-seconds κ a x y e f p q = viewed gps-tells x y p q
-
-pub lent-gps-as-unix-seconds : OneAnswer lent-gps-as-unix-seconds-contract.Post
-lent-gps-as-unix-seconds κ a x y e f p q = viewed unix-tells x y p q
