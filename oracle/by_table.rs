@@ -13,12 +13,12 @@ use gnss_time::{
 
 /// An entry for a call that reads a table: `by_table!("name", (inputs before the image) table (inputs after it) ->
 /// (results), what the crate answers, tried on f, recorded on g)`, where the crate's side uses the inputs by name, and
-/// the crate's table as `table`. Without `recorded on` the call is not in the recorded list. Where the image is no
-/// table, 8 is due; where the crate panics, since the offset is out of range, 9.
+/// the crate's table as `table`. Where the image is no table, 8 is due; where the crate panics, since the offset is out
+/// of range, 9.
 macro_rules! by_table {
     ($name:literal, ($($before:ident: $first:ty),*) $table:ident ($($after:ident: $then:ty),*)
         -> ($($result:ident: $written:ty),*), $original:expr,
-        tried on $trials:path $(, recorded on $recorded:path)?) => {{
+        tried on $trials:path, recorded on $recorded:path) => {{
         use $crate::number::Place;
         extern "C" {
             #[link_name = concat!("plaitgate_", $name)]
@@ -74,7 +74,7 @@ macro_rules! by_table {
             ),
             panic_is: Some(OFFSET_RANGE),
             trials: $trials,
-            recorded: [$(Some($recorded as fn(&'static [Named]) -> crate::inputs::Trials),)? None][0],
+            recorded: Some($recorded),
             original,
             kept: None,
             port,
@@ -130,7 +130,7 @@ fn readers() -> [Call; 6] {
             tried on instants::tables, recorded on instants::recorded_tables),
         by_table!("table_entry_at", () table (place: u64) -> (found: u8, tai_nanos: u64, tai_minus_utc: i32),
             found(entry_at(table, place).map(|entry| [entry.tai_nanos.wide(), entry.tai_minus_utc.wide()])),
-            tried on instants::places),
+            tried on instants::places, recorded on instants::recorded_places),
     ]
 }
 
@@ -160,7 +160,7 @@ extern "C" {
 const CHANGED: [(&str, &str); 2] = [("*image", "uint8_t"), ("image_bytes", "size_t")];
 const IMAGE_AFTERWARDS: &[Named] = &[("image_from_its_length_on", u64::KIND)];
 
-/// The calls that change an image. They are not in the recorded list.
+/// The calls that change an image. The recorded list has them in a shorter form (questions.rs).
 fn changes() -> [Call; 4] {
     let call = Call {
         name: "table_new",

@@ -1,48 +1,26 @@
-//! The lengths between epochs that epoch.rs has as constants, held to what the port answers for those epochs.
+//! The constants of epoch.rs: dates, lengths and leap seconds, each in the order in which the recorded list numbers them,
+//! which is that of the port's `Epoch` and `EpochSpan`.
 
-use crate::call::Call;
 use gnss_time::*;
 
-struct Length {
-    name: &'static str,
-    /// The call that gives it for the two dates.
-    call: &'static str,
-    from: CivilDate,
-    to: CivilDate,
-    value: i64,
-}
+pub const DATES: [CivilDate; 7] =
+    [TAI_EPOCH, UNIX_EPOCH, UTC_CIVIL_EPOCH, GPS_EPOCH, GLONASS_EPOCH, GALILEO_EPOCH, BEIDOU_EPOCH];
 
-macro_rules! length {
-    ($name:ident, $call:literal, $from:ident, $to:ident) => {
-        Length { name: stringify!($name), call: concat!("civil_date_", $call), from: $from, to: $to, value: $name }
-    };
-}
-
-const LENGTHS: [Length; 9] = [
-    length!(UTC_EPOCH_UNIX_OFFSET_S, "seconds_until", UNIX_EPOCH, UTC_CIVIL_EPOCH),
-    length!(UTC_EPOCH_UNIX_OFFSET_NS, "nanos_until", UNIX_EPOCH, UTC_CIVIL_EPOCH),
-    length!(GPS_EPOCH_UNIX_S, "seconds_until", UNIX_EPOCH, GPS_EPOCH),
-    length!(DAYS_UNIX_TO_GPS, "days_until", UNIX_EPOCH, GPS_EPOCH),
-    length!(DAYS_GPS_TO_GLONASS, "days_until", GPS_EPOCH, GLONASS_EPOCH),
-    length!(DAYS_GPS_TO_GALILEO, "days_until", GPS_EPOCH, GALILEO_EPOCH),
-    length!(DAYS_GPS_TO_BEIDOU, "days_until", GPS_EPOCH, BEIDOU_EPOCH),
-    length!(NANOS_GPS_TO_GALILEO_EPOCH, "nanos_until", GPS_EPOCH, GALILEO_EPOCH),
-    length!(NANOS_GPS_TO_BEIDOU_EPOCH_CALENDAR, "nanos_until", GPS_EPOCH, BEIDOU_EPOCH),
+pub const LENGTHS: [i64; 9] = [
+    DAYS_UNIX_TO_GPS,
+    DAYS_GPS_TO_GLONASS,
+    DAYS_GPS_TO_GALILEO,
+    DAYS_GPS_TO_BEIDOU,
+    UTC_EPOCH_UNIX_OFFSET_S,
+    GPS_EPOCH_UNIX_S,
+    UTC_EPOCH_UNIX_OFFSET_NS,
+    NANOS_GPS_TO_GALILEO_EPOCH,
+    NANOS_GPS_TO_BEIDOU_EPOCH_CALENDAR,
 ];
 
-pub const COUNT: usize = LENGTHS.len();
-
-/// The lengths that the port gives otherwise, a sentence each.
-pub fn differences(calls: &[Call]) -> Vec<String> {
-    LENGTHS.iter().filter_map(|length| difference(calls, length)).collect()
-}
-
-fn difference(calls: &[Call], length: &Length) -> Option<String> {
-    let call = calls.iter().find(|call| call.name == length.call).expect("the table has the call");
-    let fields = [length.from, length.to].map(|date| [date.year.into(), date.month.into(), date.day.into()]);
-    let inputs = fields.concat();
-    let port = (call.port)(&inputs);
-    let due = call.due(&inputs, Ok(vec![length.value.into()]));
-    (port != due)
-        .then(|| format!("{} is {} in the crate; {} gives another answer", length.name, length.value, call.name))
-}
+pub const LEAP_SECONDS: [i64; 4] = [
+    LEAP_SECONDS_AT_GPS_EPOCH,
+    LEAP_SECONDS_AT_GLONASS_EPOCH,
+    LEAP_SECONDS_AT_GALILEO_EPOCH,
+    LEAP_SECONDS_AT_BEIDOU_EPOCH,
+];

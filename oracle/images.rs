@@ -22,9 +22,9 @@ pub const NEGATIVE: i128 = 3;
 pub const LEAST: i128 = 4;
 pub const GREATEST: i128 = 5;
 pub const TOO_LONG: i128 = 6;
-pub const RECORDED: usize = 7;
 /// A table of 64 entries.
 pub const FULL: i128 = 7;
+pub const RECORDED: usize = 8;
 /// Bytes that are no image.
 pub const SHORT: i128 = 8;
 
@@ -59,7 +59,6 @@ static PREPARED: OnceLock<Vec<Prepared>> = OnceLock::new();
 pub fn prepare(seed: u64) {
     PREPARED.get_or_init(|| {
         let mut images = recorded_images();
-        images.push(image(&row(0, DAY, 19, RUNTIME_CAPACITY)));
         images.push(vec![0; IMAGE_BYTES - 1]);
         images.extend(notable_tables().iter().map(|entries| image(entries)));
         images.extend(notable_forgeries());
@@ -98,6 +97,7 @@ fn recorded_images() -> Vec<Vec<u8>> {
         image(&row(0, 1_000_000_000 * SECOND, LEAST_USABLE - 2, 5)),
         image(&row(0, 1_000_000_000 * SECOND, i32::MAX - 1, 2)),
         too_long,
+        image(&row(0, DAY, 19, RUNTIME_CAPACITY)),
     ]
 }
 

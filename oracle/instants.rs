@@ -197,31 +197,48 @@ fn only_tables(count: usize) -> Trials {
 
 /// A table and a place: in it, at its end, and far past it.
 pub fn places(_: &'static [Named]) -> Trials {
+    places_in(images::notable(), images::all())
+}
+
+pub fn recorded_places(_: &'static [Named]) -> Trials {
+    places_in(images::RECORDED, images::RECORDED)
+}
+
+fn places_in(tables: usize, random: usize) -> Trials {
     const FAR: [u64; 5] = [64, 65, 1 << 32, 1 << 63, u64::MAX];
     const PLACES: usize = 64 + FAR.len();
     let place_at = |place: usize| if place < 64 { place as i128 } else { FAR[place - 64].into() };
+    let in_order = |table: usize| Group::new(PLACES, move |place| vec![table as i128, place_at(place)]);
     Trials {
-        groups: vec![Group::new(images::notable() * PLACES, move |at| {
-            vec![(at / PLACES) as i128, place_at(at % PLACES)]
-        })],
+        groups: (0..tables).map(in_order).collect(),
         draw: Box::new(move |chance| {
-            vec![chance.below(images::all() as u64).into(), place_at(chance.below(PLACES as u64) as usize)]
+            vec![chance.below(random as u64).into(), place_at(chance.below(PLACES as u64) as usize)]
         }),
     }
 }
 
 /// A table and an entry for it: thresholds and offsets around its last one and at the ends of their types.
 pub fn extensions(_: &'static [Named]) -> Trials {
+    extensions_of(images::all())
+}
+
+pub fn recorded_extensions(_: &'static [Named]) -> Trials {
+    extensions_of(images::RECORDED)
+}
+
+fn extensions_of(tables: usize) -> Trials {
     const ENTRIES: usize = 48;
-    Trials {
-        groups: vec![Group::new(images::all() * ENTRIES, |at| {
-            let table = (at / ENTRIES) as i128;
+    let in_order = |table: usize| {
+        Group::new(ENTRIES, move |place| {
+            let table = table as i128;
             let last = last_entry(table);
-            let place = at % ENTRIES;
             extension(table, threshold(last, place / 8), offset(last, place % 8))
-        })],
-        draw: Box::new(|chance| {
-            let table = chance.below(images::all() as u64).into();
+        })
+    };
+    Trials {
+        groups: (0..tables).map(in_order).collect(),
+        draw: Box::new(move |chance| {
+            let table = chance.below(tables as u64).into();
             let last = last_entry(table);
             let tai_nanos = match chance.below(4) {
                 0 => threshold(last, chance.below(6) as usize),

@@ -4,7 +4,7 @@
 use crate::call::Named;
 use crate::chance::Chance;
 use crate::images::{self, list, prepared, BUILTIN, ENTRY_BYTES, FULL};
-use crate::inputs::{Group, Trials};
+use crate::inputs::{combinations, Group, Trials};
 use gnss_time::{LeapEntry, LeapSeconds};
 use std::sync::OnceLock;
 
@@ -182,5 +182,24 @@ pub fn with_readings(_: &'static [Named]) -> Trials {
             };
             vec![number, reading.into()]
         }),
+    }
+}
+
+/// For the recorded list: how many entries, none to three or 65, and three of them, a threshold and an offset each.
+pub fn up_to_three() -> Trials {
+    let [least, greatest] = [i32::MIN, i32::MAX].map(i128::from);
+    let last = i128::from(u64::MAX);
+    let choices = vec![
+        vec![0, 1, 2, 3, 65],
+        vec![0, 5, last],
+        vec![least, 18, greatest],
+        vec![0, 5, 6, last],
+        vec![least, least + 1, 18, 19, greatest],
+        vec![5, 7, last],
+        vec![least + 2, 19, 20, 21],
+    ];
+    Trials {
+        groups: vec![combinations(choices.clone())],
+        draw: Box::new(move |chance| choices.iter().map(|choices| chance.one_of(choices)).collect()),
     }
 }

@@ -1,10 +1,11 @@
 //! The recorded list: a sample of the crate's answers for a program that replays them without the crate.
 
-use crate::call::{Call, Written};
+use crate::call::{Call, Named, Written};
 use crate::chance::Chance;
-use crate::compare::due;
+use crate::compare;
 use crate::images::{prepared, RECORDED};
 use crate::inputs::{Group, Trials};
+use crate::questions::questions;
 use gnss_time::LeapEntry;
 use std::collections::{BTreeMap, BTreeSet, HashSet};
 use std::fmt::Write;
@@ -17,32 +18,72 @@ const RANDOMS: usize = 8;
 /// Of the random inputs; fixed, so that the list is the same whenever it is made.
 const SEED: u64 = 1;
 
+/// What is asked of the crate and recorded.
+struct Asked<'a> {
+    number: usize,
+    name: &'static str,
+    inputs: Vec<&'static str>,
+    results: Vec<&'static str>,
+    trials: Trials,
+    due: Box<dyn Fn(&[i128]) -> Option<Written> + 'a>,
+}
+
+impl Asked<'_> {
+    fn due(&self, inputs: &[i128]) -> Written {
+        (self.due)(inputs).unwrap_or_else(|| panic!("the crate panics in {} on {inputs:?}", self.name))
+    }
+}
+
+/// The calls of the table that are recorded as they are, and the other questions, in the order of their numbers.
+fn all_asked(calls: &[Call]) -> Vec<Asked<'_>> {
+    let names = |all: &'static [Named]| all.iter().map(|(name, _)| *name).collect();
+    let of_calls = calls.iter().enumerate().filter_map(|(place, call)| {
+        Some(Asked {
+            number: place + 1,
+            name: call.name,
+            inputs: names(call.inputs),
+            results: names(call.results),
+            trials: (call.recorded?)(call.inputs),
+            due: Box::new(|inputs| compare::due(call, inputs).written),
+        })
+    });
+    let others = questions(calls).into_iter().map(|question| Asked {
+        number: question.number,
+        name: question.name,
+        inputs: question.inputs.to_vec(),
+        results: question.results.to_vec(),
+        trials: question.trials,
+        due: Box::new(move |inputs| Some((question.due)(inputs))),
+    });
+    let mut asked: Vec<Asked> = of_calls.chain(others).collect();
+    asked.sort_by_key(|asked| asked.number);
+    asked
+}
+
 pub fn recorded(calls: &[Call]) -> String {
-    let mut list = legend(calls);
-    for (place, call) in calls.iter().enumerate() {
-        let Some(trials) = call.recorded else { continue };
+    let asked = all_asked(calls);
+    let mut list = legend(&asked);
+    for asked in &asked {
         let mut seen = HashSet::new();
-        for inputs in sample(call, trials(call.inputs)) {
-            let due = due(call, &inputs).written;
-            let due = due.unwrap_or_else(|| panic!("the crate panics in {} on {inputs:?}", call.name));
+        for inputs in sample(asked) {
             if seen.insert(inputs.clone()) {
-                list.push_str(&line(place + 1, &inputs, &due));
+                list.push_str(&line(asked.number, &inputs, &asked.due(&inputs)));
             }
         }
     }
     list
 }
 
-fn legend(calls: &[Call]) -> String {
+fn legend(asked: &[Asked]) -> String {
     let mut legend = format!(
         "# Answers of the crate gnss-time 0.9.1, made by: oracle/run --record FILE (seed {SEED})\n\
-         # A line: the call's number, its inputs, the number of the refusal (0: answered), the results.\n\
-         # The calls, with their inputs and results:\n"
+         # A line: the question's number, its inputs, the number of the refusal (0: answered), the results.\n\
+         # The questions, with their inputs and results:\n"
     );
-    for (place, call) in calls.iter().enumerate().filter(|(_, call)| call.recorded.is_some()) {
-        let names = |all: &[crate::call::Named]| all.iter().fold(String::new(), |text, (name, _)| text + " " + name);
-        let (inputs, results) = (names(call.inputs), names(call.results));
-        writeln!(legend, "# {} {}:{inputs} ->{results}", place + 1, call.name).expect("a string takes every text");
+    for Asked { number, name, inputs, results, .. } in asked {
+        let words = |all: &[&str]| all.iter().fold(String::new(), |text, name| text + " " + name);
+        let (inputs, results) = (words(inputs), words(results));
+        writeln!(legend, "# {number} {name}:{inputs} ->{results}").expect("a string takes every text");
     }
     legend.push_str("# The tables, by their entries:\n");
     for number in 0..RECORDED {
@@ -54,15 +95,15 @@ fn legend(calls: &[Call]) -> String {
     legend
 }
 
-fn sample(call: &Call, trials: Trials) -> Vec<Vec<i128>> {
-    let mut chance = Chance::of(call.name, SEED);
-    let drawn: Vec<Vec<i128>> = (0..RANDOMS).map(|_| (trials.draw)(&mut chance)).collect();
-    trials.groups.iter().flat_map(|group| sample_of_group(call, group)).chain(drawn).collect()
+fn sample(asked: &Asked) -> Vec<Vec<i128>> {
+    let mut chance = Chance::of(asked.name, SEED);
+    let drawn: Vec<Vec<i128>> = (0..RANDOMS).map(|_| (asked.trials.draw)(&mut chance)).collect();
+    asked.trials.groups.iter().flat_map(|group| sample_of_group(asked, group)).chain(drawn).collect()
 }
 
-fn sample_of_group(call: &Call, group: &Group) -> Vec<Vec<i128>> {
+fn sample_of_group(asked: &Asked, group: &Group) -> Vec<Vec<i128>> {
     let mut places: BTreeSet<usize> = thinned(group.len(), OTHERS).collect();
-    for turns in turns(call, group).values() {
+    for turns in turns(asked, group).values() {
         for turn in thinned(turns.len(), TURNS) {
             places.extend([turns[turn] - 1, turns[turn]]);
         }
@@ -71,8 +112,8 @@ fn sample_of_group(call: &Call, group: &Group) -> Vec<Vec<i128>> {
 }
 
 /// The places where the refusal is not the one before, by the two refusals.
-fn turns(call: &Call, group: &Group) -> BTreeMap<[Option<u32>; 2], Vec<usize>> {
-    let refusal = |place| due(call, &group.at(place)).written.map(|written| written.refusal);
+fn turns(asked: &Asked, group: &Group) -> BTreeMap<[Option<u32>; 2], Vec<usize>> {
+    let refusal = |place| (asked.due)(&group.at(place)).map(|written| written.refusal);
     let mut turns: BTreeMap<_, Vec<usize>> = BTreeMap::new();
     let mut before = refusal(0);
     for place in 1..group.len() {

@@ -1,7 +1,8 @@
-// What the library answers to a call of the recorded list. The list numbers the calls; its first lines name them.
+// What the exported calls answer to a question of the recorded list. The list numbers the calls; its first lines name them.
 mod by_builtin;
 mod by_table;
-mod civil;
+pub mod changes;
+mod dates;
 mod glonass;
 mod gps;
 mod tai;
@@ -19,10 +20,11 @@ pub fn ask(call: u64, q: Question) -> Reply {
         45..=50 => gps::weeks(call - 44, q),
         51..=56 => glonass::days(call - 50, q),
         57..=63 => utc::unix_and_durations(call - 56, q),
-        64..=68 => civil::dates(call - 63, q),
-        69..=73 => civil::times(call - 68, q),
+        64..=68 => dates::dates(call - 63, q),
+        69..=73 => dates::times(call - 68, q),
         74..=82 => by_builtin::builtin(call - 73, q),
-        83..=93 => by_table::by_table(call - 82, q),
+        83..=94 => by_table::by_table(call - 82, q),
+        95..=98 => changes::changes(call - 94, q),
         _ => Reply::unknown(),
     }
 }

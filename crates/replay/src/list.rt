@@ -1,5 +1,6 @@
 // The recorded list, read byte by byte: a line is a call's number, its inputs, the refusal's number and the results.
 use crate::ask;
+use crate::by_value;
 use crate::reply::Question;
 use crate::reply::Reply;
 
@@ -93,27 +94,37 @@ impl Reading {
         next
     }
 
-    // Whether the library gives what the line says.
+    // Whether the library gives what the line says: the exported call, and the calls by value.
     fn agrees(self) -> bool {
         let sizes = self.sizes;
         let signs = self.signs;
         let call = sizes[0];
-        let reply = ask::ask(
-            call,
-            Question {
-                x: sizes[1],
-                x_minus: signs[1] == 1,
-                y: sizes[2],
-                y_minus: signs[2] == 1,
-                z: sizes[3],
-                fourth: sizes[4],
-                fourth_minus: signs[4] == 1,
-                fifth: sizes[5],
-                sixth: sizes[6],
-                seventh: sizes[7],
-            },
-        );
-        same(reply, sizes, signs, place_of_refusal(call))
+        let at = place_of_refusal(call);
+        let q = question(sizes, signs);
+        if !same(by_value::ask(call, q), sizes, signs, at) {
+            return false;
+        }
+        // what has a number above 200 is not exported
+        200 < call || same(ask::ask(call, q), sizes, signs, at)
+    }
+}
+
+// The inputs of a line.
+fn question(sizes: [u64; 16], signs: [u64; 16]) -> Question {
+    Question {
+        x: sizes[1],
+        x_minus: signs[1] == 1,
+        y: sizes[2],
+        y_minus: signs[2] == 1,
+        z: sizes[3],
+        z_minus: signs[3] == 1,
+        fourth: sizes[4],
+        fourth_minus: signs[4] == 1,
+        fifth: sizes[5],
+        fifth_minus: signs[5] == 1,
+        sixth: sizes[6],
+        seventh: sizes[7],
+        seventh_minus: signs[7] == 1,
     }
 }
 
@@ -124,22 +135,23 @@ fn same(reply: Reply, sizes: [u64; 16], signs: [u64; 16], at: usize) -> bool {
     }
     let values = reply.values;
     let minus = (signs[at + 1] == 1) == reply.minus;
+    let third_minus = (signs[at + 3] == 1) == reply.third_minus;
     let number = sizes[at] == reply.number as u64;
     let first = sizes[at + 1] == values[0] && sizes[at + 2] == values[1];
     let second = sizes[at + 3] == values[2] && sizes[at + 4] == values[3];
     let third = sizes[at + 5] == values[4] && sizes[at + 6] == values[5];
     let last = sizes[at + 7] == values[6];
-    number && minus && first && second && third && last
+    number && minus && third_minus && first && second && third && last
 }
 
 // Where a line has the refusal's number: behind the call's number and its inputs.
 fn place_of_refusal(call: u64) -> usize {
     match call {
         11 | 22 | 33 | 44 => 1,
-        6..=10 | 17..=21 | 28..=32 | 39..=43 | 61 | 83..=89 => 3,
-        45 | 51 | 64 | 65 => 4,
+        6..=10 | 17..=21 | 28..=32 | 39..=43 | 61 | 83..=89 | 94 => 3,
+        45 | 51 | 64 | 65 | 98 => 4,
         66..=68 => 7,
-        71..=73 => 8,
+        71..=73 | 97 => 8,
         _ => 2,
     }
 }

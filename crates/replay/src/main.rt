@@ -1,9 +1,10 @@
-// Replays recorded answers: reads the recorded list from standard input, asks the library for each of its calls, and says
-// how many lines agree with the library and how many differ.
+// Replays recorded answers: reads the recorded list from standard input, asks each question of the exported call and of the
+// calls by value, and says with how many lines both agree and how many differ.
 mod ask;
+mod by_value;
 mod list;
+mod numbered;
 mod reply;
-mod tables;
 mod year;
 
 use libc::STDERR_FILENO;

@@ -4,6 +4,7 @@ use counts::Duration;
 use counts::DurationAnswer;
 use counts::sums;
 use counts::sums::Step;
+use refusals::Refusal;
 
 // The inputs of a call: of each number its size, and whether a minus sign stands before it.
 pub struct Question {
@@ -12,18 +13,22 @@ pub struct Question {
     pub y: u64,
     pub y_minus: bool,
     pub z: u64,
+    pub z_minus: bool,
     pub fourth: u64,
     pub fourth_minus: bool,
     pub fifth: u64,
+    pub fifth_minus: bool,
     pub sixth: u64,
     pub seventh: u64,
+    pub seventh_minus: bool,
 }
 
-// The refusal's number, 0 for an answer, and up to seven results; only the first can have a minus sign.
+// The refusal's number, 0 for an answer, and up to seven results; the first and the third can have a minus sign.
 pub struct Reply {
     pub number: u32,
     pub values: [u64; 7],
     pub minus: bool,
+    pub third_minus: bool,
 }
 
 impl Question {
@@ -45,6 +50,21 @@ impl Question {
     // The fourth input as a year.
     pub fn other_year(self) -> i32 {
         year::of(self.fourth, self.fourth_minus)
+    }
+
+    // The third input as an offset.
+    pub fn offset(self) -> i32 {
+        year::of(self.z, self.z_minus)
+    }
+
+    // The fifth input as an offset.
+    pub fn second_offset(self) -> i32 {
+        year::of(self.fifth, self.fifth_minus)
+    }
+
+    // The seventh input as an offset.
+    pub fn third_offset(self) -> i32 {
+        year::of(self.seventh, self.seventh_minus)
     }
 }
 
@@ -70,19 +90,30 @@ fn magnitude(n: i64) -> u64 {
 
 impl Reply {
     pub fn one(number: u32, a: u64) -> Reply {
-        Reply {
-            number,
-            values: [a, 0, 0, 0, 0, 0, 0],
-            minus: false,
-        }
+        Reply::plain(number, [a, 0, 0, 0, 0, 0, 0])
     }
 
     pub fn two(number: u32, a: u64, b: u64) -> Reply {
+        Reply::plain(number, [a, b, 0, 0, 0, 0, 0])
+    }
+
+    pub fn four(number: u32, a: u64, b: u64, c: u64, d: u64) -> Reply {
+        Reply::plain(number, [a, b, c, d, 0, 0, 0])
+    }
+
+    // Results without a sign.
+    fn plain(number: u32, values: [u64; 7]) -> Reply {
         Reply {
             number,
-            values: [a, b, 0, 0, 0, 0, 0],
+            values,
             minus: false,
+            third_minus: false,
         }
+    }
+
+    // A refusal's number and zeros.
+    pub fn refused(why: Refusal) -> Reply {
+        Reply::one(why.number(), 0)
     }
 
     pub fn signed(number: u32, a: i64) -> Reply {
@@ -101,17 +132,30 @@ impl Reply {
             number,
             values: [size, rest[0], rest[1], rest[2], rest[3], rest[4], rest[5]],
             minus: a < 0,
+            third_minus: false,
+        }
+    }
+
+    // A number, and an entry's threshold and offset.
+    pub fn entry(number: u32, a: u64, tai_nanos: u64, tai_minus_utc: i32) -> Reply {
+        let size = magnitude(year::wide(tai_minus_utc));
+        Reply {
+            number,
+            values: [a, tai_nanos, size, 0, 0, 0, 0],
+            minus: false,
+            third_minus: tai_minus_utc < 0,
         }
     }
 
     // No call has this number.
     pub fn unknown() -> Reply {
-        Reply {
-            number: 4_294_967_295,
-            values: [0, 0, 0, 0, 0, 0, 0],
-            minus: false,
-        }
+        Reply::plain(4_294_967_295, [0, 0, 0, 0, 0, 0, 0])
     }
+}
+
+// A number of the list that the call takes in 8 bits.
+pub fn byte(n: u64) -> u8 {
+    (n % 256) as u8
 }
 
 // A number of the list that the call takes in 32 bits.

@@ -1,7 +1,7 @@
 // What the library answers to the calls by a table. The first input is the table's number.
+use crate::numbered;
 use crate::reply::Question;
 use crate::reply::Reply;
-use crate::tables;
 use plaitgate::by_table::plaitgate_glonass_to_gps;
 use plaitgate::by_table::plaitgate_gps_as_unix_seconds;
 use plaitgate::by_table::plaitgate_gps_from_unix_seconds;
@@ -9,6 +9,7 @@ use plaitgate::by_table::plaitgate_gps_to_glonass;
 use plaitgate::by_table::plaitgate_gps_to_utc;
 use plaitgate::by_table::plaitgate_utc_to_gps;
 use plaitgate::leap_tables::plaitgate_table_current_tai_minus_utc;
+use plaitgate::leap_tables::plaitgate_table_entry_at;
 use plaitgate::leap_tables::plaitgate_table_is_empty;
 use plaitgate::leap_tables::plaitgate_table_last_update;
 use plaitgate::leap_tables::plaitgate_table_len;
@@ -16,7 +17,7 @@ use plaitgate::leap_tables::plaitgate_table_tai_minus_utc_at;
 
 pub fn by_table(call: u64, q: Question) -> Reply {
     let mut image = [0u8; 776];
-    tables::put(q.x, &mut image);
+    numbered::put(q.x, &mut image);
     if call < 7 {
         conversions(call, q, &image)
     } else {
@@ -59,11 +60,11 @@ fn conversions(call: u64, q: Question, image: &[u8; 776]) -> Reply {
     }
 }
 
-fn readers(call: u64, tai: u64, image: &[u8; 776]) -> Reply {
+fn readers(call: u64, y: u64, image: &[u8; 776]) -> Reply {
     match call {
         1 => {
             let mut a: i32 = 1;
-            let number = plaitgate_table_tai_minus_utc_at(image, tai, &mut a);
+            let number = plaitgate_table_tai_minus_utc_at(image, y, &mut a);
             Reply::offset(number, a)
         }
         2 => {
@@ -82,10 +83,25 @@ fn readers(call: u64, tai: u64, image: &[u8; 776]) -> Reply {
             let number = plaitgate_table_last_update(image, &mut a, &mut b);
             Reply::two(number, a as u64, b)
         }
-        _ => {
+        5 => {
             let mut a: i32 = 1;
             let number = plaitgate_table_current_tai_minus_utc(image, &mut a);
             Reply::offset(number, a)
         }
+        _ => entry_at(y, image),
     }
+}
+
+fn entry_at(place: u64, image: &[u8; 776]) -> Reply {
+    let mut found: u8 = 1;
+    let mut tai_nanos: u64 = 1;
+    let mut tai_minus_utc: i32 = 1;
+    let number = plaitgate_table_entry_at(
+        image,
+        place,
+        &mut found,
+        &mut tai_nanos,
+        &mut tai_minus_utc,
+    );
+    Reply::entry(number, found as u64, tai_nanos, tai_minus_utc)
 }

@@ -1,7 +1,12 @@
-// The tables of the recorded list, as images. The list numbers them; its first lines have their entries.
+// The tables of the recorded list, as images and by value. The list numbers them; its first lines have their entries.
+ghost use Prim.Native.Nat.{_+_, _≤_};
+ghost use lib.ListN.{length};
+use images::inner;
 use plaitgate::leap_tables::plaitgate_table_from_builtin;
 use plaitgate::leap_tables::plaitgate_table_new;
 use plaitgate::leap_tables::plaitgate_table_try_extend;
+use tables::LeapEntry;
+use tables::LeapTable;
 
 // The table of a number, written over an image of zeros.
 pub fn put(number: u64, image: &mut [u8; 776]) {
@@ -18,7 +23,10 @@ pub fn put(number: u64, image: &mut [u8; 776]) {
         3 => put_negative(image),
         4 => put_least(image),
         5 => put_greatest(image),
-        _ => put_too_long(image),
+        6 => put_too_long(image),
+        _ => {
+            images::write(full(), image);
+        }
     }
 }
 
@@ -50,4 +58,38 @@ fn put_greatest(image: &mut [u8; 776]) {
 // A length of 65, which no table has.
 fn put_too_long(image: &mut [u8; 776]) {
     image[0] = 65;
+}
+
+// 64 entries, a day apart.
+fn full() -> LeapTable {
+    let mut table = LeapTable::new();
+    let mut day: u64 = 0;
+    while day < 64 {
+        let entry = LeapEntry::new(day * 86_400_000_000_000, (19 + day) as i32);
+        let grown = table.try_extend(entry);
+        table = grown.table;
+        day += 1;
+    }
+    table
+}
+
+// The table of a number, by value.
+pub fn table(number: u64) -> LeapTable {
+    let mut image = [0u8; 776];
+    put(number, &mut image);
+    table_in(&image)
+}
+
+fn table_in(image: &[u8; 776]) -> LeapTable {
+    let read = images::read(image);
+    read.table
+}
+
+// Writes an entry to a list of entries, from a byte on.
+pub fn put_entry(list: &mut [u8], at: usize, tai_nanos: u64, tai_minus_utc: i32)
+    requires { ⌜ at + 12 ≤ length (now list) ⌝ }
+{
+    inner::put_number(list, at, 8, tai_nanos);
+    let bits = inner::complement(tai_minus_utc) as u64;
+    inner::put_number(list, at + 8, 4, bits);
 }

@@ -1,6 +1,8 @@
 // What the library answers to the calls of dates and civil times.
 use crate::reply::Question;
 use crate::reply::Reply;
+use crate::reply::byte;
+use crate::reply::low;
 use crate::year;
 use plaitgate::civil_dates::plaitgate_civil_date_days_from_unix;
 use plaitgate::civil_dates::plaitgate_civil_date_days_until;
@@ -100,7 +102,7 @@ pub fn times(call: u64, q: Question) -> Reply {
                 byte(q.fourth),
                 byte(q.fifth),
                 byte(q.sixth),
-                word(q.seventh),
+                low(q.seventh),
                 &mut a,
             );
             Reply::one(number, a)
@@ -114,7 +116,7 @@ pub fn times(call: u64, q: Question) -> Reply {
                 byte(q.fourth),
                 byte(q.fifth),
                 byte(q.sixth),
-                word(q.seventh),
+                low(q.seventh),
                 &mut a,
             );
             Reply::one(number, a)
@@ -128,7 +130,7 @@ pub fn times(call: u64, q: Question) -> Reply {
                 byte(q.fourth),
                 byte(q.fifth),
                 byte(q.sixth),
-                word(q.seventh),
+                low(q.seventh),
                 &mut a,
             );
             Reply::one(number, a as u64)
@@ -221,14 +223,4 @@ fn to_civil(count: u64) -> Reply {
         second,
         nanos,
     }.reply(number)
-}
-
-// A number of the list that the call takes in 8 bits.
-fn byte(n: u64) -> u8 {
-    (n % 256) as u8
-}
-
-// A number of the list that the call takes in 32 bits.
-fn word(n: u64) -> u32 {
-    (n % 4_294_967_296) as u32
 }

@@ -1,0 +1,33 @@
+// What the calls by value answer to a question of the recorded list: the port itself, with no C boundary.
+mod by_builtin;
+mod by_table;
+mod changes;
+mod dates;
+mod epochs;
+mod glonass;
+mod gps;
+mod said;
+mod tai;
+mod utc;
+
+use crate::reply::Question;
+use crate::reply::Reply;
+
+pub fn ask(call: u64, q: Question) -> Reply {
+    match call {
+        1..=11 => gps::counts(call, q),
+        12..=22 => utc::counts(call - 11, q),
+        23..=33 => glonass::counts(call - 22, q),
+        34..=44 => tai::counts(call - 33, q),
+        45..=50 => gps::weeks(call - 44, q),
+        51..=56 => glonass::days(call - 50, q),
+        57..=63 => utc::unix_and_durations(call - 56, q),
+        64..=68 => dates::dates(call - 63, q),
+        69..=73 => dates::times(call - 68, q),
+        74..=82 => by_builtin::builtin(call - 73, q),
+        83..=94 => by_table::by_table(call - 82, q),
+        95..=98 => changes::changes(call - 94, q),
+        201..=203 => epochs::constants(call - 200, q.x),
+        _ => Reply::unknown(),
+    }
+}

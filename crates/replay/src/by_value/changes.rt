@@ -1,0 +1,97 @@
+// Tables made and extended by value. Each is held, byte by byte, to the image that the exported call leaves.
+use crate::ask;
+use crate::numbered;
+use crate::reply::Question;
+use crate::reply::Reply;
+use tables::EntryAnswer;
+use tables::Extension;
+use tables::LeapEntry;
+use tables::LeapTable;
+use tables::LengthAnswer;
+use tables::Taken;
+
+pub fn changes(call: u64, q: Question) -> Reply {
+    let made = change(call, q);
+    let table = made.table;
+    let mut lent = [0u8; 776];
+    ask::changes::change(call, q, &mut lent);
+    let mut own = [0u8; 776];
+    images::write(table, &mut own);
+    if !same_bytes(&lent, &own) {
+        return Reply::unknown();
+    }
+    let answer = made.answer;
+    match answer {
+        Taken::Done => afterwards(0, table),
+        Taken::Refused(why) => afterwards(why.number(), table),
+    }
+}
+
+fn change(call: u64, q: Question) -> Extension {
+    match call {
+        1 => done(LeapTable::new()),
+        2 => done(builtin::from_builtin()),
+        3 => from_lists(q),
+        _ => numbered::table(q.x).try_extend(LeapEntry::new(q.y, q.offset())),
+    }
+}
+
+fn done(table: LeapTable) -> Extension {
+    Extension {
+        answer: Taken::Done,
+        table,
+    }
+}
+
+// The table of the question's entries: none to three, or 65.
+fn from_lists(q: Question) -> Extension {
+    let mut thresholds = [0u64; 65];
+    let mut offsets = [0i32; 65];
+    thresholds[0] = q.y;
+    thresholds[1] = q.fourth;
+    thresholds[2] = q.sixth;
+    offsets[0] = q.offset();
+    offsets[1] = q.second_offset();
+    offsets[2] = q.third_offset();
+    let count = q.x;
+    match count {
+        0 => LeapTable::from_lists(&thresholds[0..0], &offsets[0..0]),
+        1 => LeapTable::from_lists(&thresholds[0..1], &offsets[0..1]),
+        2 => LeapTable::from_lists(&thresholds[0..2], &offsets[0..2]),
+        3 => LeapTable::from_lists(&thresholds[0..3], &offsets[0..3]),
+        _ => LeapTable::from_lists(&thresholds, &offsets),
+    }
+}
+
+// A table's length and last entry, beside a refusal's number.
+fn afterwards(number: u32, table: LeapTable) -> Reply {
+    match table.len() {
+        LengthAnswer::Length(n) => last_of(number, n, table),
+        LengthAnswer::Refused(_) => Reply::one(number, 0),
+    }
+}
+
+fn last_of(number: u32, n: usize, table: LeapTable) -> Reply {
+    if n == 0 {
+        return Reply::one(number, 0);
+    }
+    match table.entry_at(n - 1) {
+        EntryAnswer::Entry(e) => {
+            let offset = e.tai_minus_utc;
+            Reply::entry(number, n as u64, e.tai_nanos, offset)
+        }
+        EntryAnswer::Nothing => Reply::unknown(),
+        EntryAnswer::Refused(_) => Reply::unknown(),
+    }
+}
+
+fn same_bytes<'a>(a: &'a [u8; 776], b: &'a [u8; 776]) -> bool {
+    let mut i: usize = 0;
+    while i < 776 {
+        if a[i] != b[i] {
+            return false;
+        }
+        i += 1;
+    }
+    true
+}

@@ -1,0 +1,54 @@
+// Questions about GLONASS counts, by value.
+use crate::by_value::said;
+use crate::reply::Question;
+use crate::reply::Reply;
+use crate::reply::low;
+use counts::Duration;
+use counts::units::DurationParts;
+use scales::glonass::Glonass;
+
+pub fn counts(call: u64, q: Question) -> Reply {
+    let t = Glonass(q.x);
+    let d = Duration(q.duration());
+    match call {
+        1 => Reply::one(0, Glonass::from_nanos(q.x).0),
+        2 => Reply::one(0, t.as_nanos()),
+        3 => said::glonass(Glonass::checked_from_seconds(q.x)),
+        4 => Reply::one(0, t.as_seconds()),
+        5 => said::parts(t.as_parts()),
+        6 => said::glonass(t.checked_add(d)),
+        7 => said::glonass(t.checked_sub_duration(d)),
+        8 => Reply::one(0, t.saturating_add(d).0),
+        9 => Reply::one(0, t.saturating_sub_duration(d).0),
+        10 => said::duration(t.checked_elapsed(Glonass(q.y))),
+        _ => limits(),
+    }
+}
+
+fn limits() -> Reply {
+    Reply::four(
+        0,
+        Glonass::EPOCH.0,
+        Glonass::MIN.0,
+        Glonass::MAX.0,
+        Glonass::NANOS_PER_YEAR,
+    )
+}
+
+pub fn days(call: u64, q: Question) -> Reply {
+    let t = Glonass(q.x);
+    match call {
+        1 => {
+            let tod = DurationParts {
+                seconds: q.y,
+                nanos: low(q.z),
+            };
+            said::glonass(Glonass::from_day_tod(low(q.x), tod))
+        }
+        2 => Reply::one(0, t.day() as u64),
+        3 => Reply::one(0, t.tod_seconds() as u64),
+        4 => Reply::one(0, t.sub_second_nanos() as u64),
+        5 => Reply::one(0, t.day_of_week() as u64),
+        _ => said::yes(t.is_weekend()),
+    }
+}
