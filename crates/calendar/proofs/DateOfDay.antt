@@ -7,7 +7,8 @@ use native.Mathlib.Decide.{ℕ-discrete}
 use borrow.Author.Tests.{lt-ltb, le-ltb}
 use lib.IntN.{pos, subℕ}
 use Rattle.counts.proofs.Difference.{not-below}
-use Rattle.calendar.specs.Calendar.{on, Real, leap, daysIn, dateOf}
+use Rattle.calendar.specs.Calendar.{on, leap, daysIn, dateOf}
+use Rattle.calendar.proofs.RealDates.{Real}
 use Rattle.calendar.specs.Formula.{dayOf, fromMarch, monthStart}
 use Rattle.calendar.specs.March.{daysInYears, marchOf, InYear, InMonth}
 use Rattle.calendar.proofs.MarchYears.{year-length, at-most-366}

@@ -7,7 +7,8 @@ use native.Mathlib.Decide.{decLt}
 use lib.Dec.{T, ltb→lt, lt→ltb, le→leb}
 use lib.IntN.{ℤ, pos, negsuc, sucℤ}
 use lib.Signed.{_≤ℤ_, _<ℤ_, ltZ, leZ, <ℤ-≤ℤ-trans}
-use Rattle.calendar.specs.Calendar.{Date, Real, next, dateOf}
+use Rattle.calendar.specs.Calendar.{Date, next, dateOf}
+use Rattle.calendar.proofs.RealDates.{Real}
 use Rattle.calendar.proofs.DayByDay.{after}
 use Rattle.calendar.proofs.CalendarTheorems.{real-date}
 

@@ -6,7 +6,8 @@ use native.Mathlib.Omega.{arith}
 use native.Mathlib.Decide.{decLt}
 use borrow.Author.Tests.{lt-ltb, le-ltb}
 use lib.IntN.{ℤ, sucℤ, predℤ, suc-pred, pred-suc}
-use Rattle.calendar.specs.Calendar.{Date, on, Real, leap, daysIn, monthLength, next, prev}
+use Rattle.calendar.specs.Calendar.{Date, on, leap, daysIn, monthLength, next, prev}
+use Rattle.calendar.proofs.RealDates.{Real}
 use Rattle.calendar.proofs.Months.{has-a-day}
 
 december : (l : Bool) → daysIn l 12 ≡ 31

@@ -8,7 +8,8 @@ use native.Mathlib.Decide.{ℕ-discrete, decLt}
 use borrow.Author.Tests.{lt-ltb, le-ltb}
 use lib.IntN.{ℤ, pos, sucℤ, predℤ, subℕ, pred-suc}
 use Rattle.counts.proofs.Difference.{not-below}
-use Rattle.calendar.specs.Calendar.{Date, on, Real, leap, daysIn, next, prev, unixEpoch}
+use Rattle.calendar.specs.Calendar.{Date, on, leap, daysIn, next, prev, unixEpoch}
+use Rattle.calendar.proofs.RealDates.{Real}
 use Rattle.calendar.specs.Formula.{dayOf, formula, fromMarch, monthStart}
 use Rattle.calendar.specs.March.{daysInYears, marchOf, epochNumber}
 use Rattle.calendar.proofs.Sums.{one-more, is-natural}

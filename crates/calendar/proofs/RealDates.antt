@@ -1,8 +1,16 @@
--- Whether the calendar has a date is a test that computes.
+-- The dates that the calendar has. Whether it has one is a test that computes.
 use mathlib.Core.Bool.{Bool, _&&_}
+use Prim.Native.Nat.{_≤_}
 use lib.Dec.{T, leb, leb→le}
 use mir.Facts.{and-yes}
-use Rattle.calendar.specs.Calendar.{Date, Real, monthLength}
+use Rattle.calendar.specs.Calendar.{Date, monthLength}
+
+-- a date that the calendar has
+pub record Real (d : Date) : Type 0 where
+  pub month-from : 1 ≤ d .month
+  pub month-to : d .month ≤ 12
+  pub day-from : 1 ≤ d .day
+  pub day-to : d .day ≤ monthLength (d .year) (d .month)
 
 abbrev pub isReal : Date → Bool
 isReal d = leb 1 (d .month) && (leb (d .month) 12 && (leb 1 (d .day) && leb (d .day) (monthLength (d .year) (d .month))))

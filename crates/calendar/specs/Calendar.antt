@@ -2,7 +2,7 @@
 -- Years are integers; before year 1 comes year 0.
 use mathlib.Core.Bool.{Bool, not, _&&_, _||_, cond}
 use mathlib.Core.List.{[], _∷_}
-use Prim.Native.Nat.{ℕ, zero, suc, _+_, _-_, _%_, _≤_}
+use Prim.Native.Nat.{ℕ, zero, suc, _+_, _-_, _%_}
 use lib.Dec.{eqb, ltb}
 use lib.IntN.{ℤ, pos, negsuc, sucℤ, predℤ, natAbs}
 use lib.ListN.{getD}
@@ -30,13 +30,6 @@ daysIn l m = getD (31 ∷ cond l 29 28 ∷ 31 ∷ 30 ∷ 31 ∷ 30 ∷ 31 ∷ 31
 
 abbrev pub monthLength : ℤ → ℕ → ℕ
 monthLength y m = daysIn (leap y) m
-
--- a date that the calendar has
-pub record Real (d : Date) : Type 0 where
-  pub month-from : 1 ≤ d .month
-  pub month-to : d .month ≤ 12
-  pub day-from : 1 ≤ d .day
-  pub day-to : d .day ≤ monthLength (d .year) (d .month)
 
 -- the date of the day after
 unfoldable pub next : Date → Date
