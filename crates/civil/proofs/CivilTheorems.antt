@@ -14,55 +14,64 @@ use Rattle.counts.specs.declared.CountAnswer.the-variants.{Count}
 use Rattle.counts.proofs.Tells.{count-tells}
 use Rattle.counts.proofs.Difference.{not-below, of-naturals}
 use Rattle.counts.proofs.Fitting.{is-count}
-use Rattle.calendar.specs.Calendar.{on, dateOf}
+use Rattle.calendar.specs.Calendar.{dateOf}
 use Rattle.calendar.specs.Formula.{era, yoe, doy, doe, formula, dayOf}
 use Rattle.calendar.specs.Dates.{utcEpochDay}
-use Rattle.calendar.proofs.CalendarTheorems.{day-of-date, date-of-day}
+use Rattle.calendar.proofs.RealDates.{Real}
+use Rattle.calendar.proofs.CalendarTheorems.{day-of-date, date-of-day, real-date}
 use Rattle.calendar.proofs.DateOrder.{NotAfter, no-earlier-dates}
-use Rattle.civil.specs.Fields.{Fields, RealFields, fieldsIn, fieldsOf, timeOf, onDay, countAt}
+use Rattle.civil.specs.Fields.{fields, dateIn, fieldsOf, timeOf, onDay, countAt}
 use Rattle.civil.specs.declared.CivilDateTime.{CivilDateTime}
-use Rattle.civil.proofs.Tells.{fields-tell}
 
 -- the nanoseconds of a day
 abbrev pub dayNanos : ℕ
 dayNanos = units.daySeconds * units.second
 
-abbrev pub midnight : ℤ → ℕ → ℕ → Fields
-midnight y m d = record { date = on y m d; hour = 0; minute = 0; second = 0; nanos = 0 }
+-- fields that a clock shows
+pub record RealFields (c : CivilDateTime) : Type 0 where
+  pub date : Real (dateIn c)
+  pub hour : c .hour < 24
+  pub minute : c .minute < 60
+  pub second : c .second < 60
+  pub nanos : c .nanos < units.second
 
 -- ---- the statements
 abbrev pub CountsComeBack : Type 0
 CountsComeBack = (n : ℕ) → n < 2 ^ 64 → countAt (fieldsOf n) ≡ answered n
 
+-- which fields are real is told from both sides: those of every count are, and no others come back from their count
+abbrev pub FieldsOfCountsAreReal : Type 0
+FieldsOfCountsAreReal = (n : ℕ) → RealFields (fieldsOf n)
+
 abbrev pub RealFieldsComeBack : Type 0
-RealFieldsComeBack = (f : Fields) (n : ℕ) → RealFields f → countAt f ≡ answered n → fieldsOf n ≡ f
+RealFieldsComeBack = (c : CivilDateTime) (n : ℕ) → RealFields c → countAt c ≡ answered n → fieldsOf n ≡ c
 
 abbrev pub DateOfACountIsItsDays : Type 0
-DateOfACountIsItsDays = (n : ℕ) → fieldsOf n .date ≡ dateOf (pos (n / dayNanos + utcEpochDay))
+DateOfACountIsItsDays = (n : ℕ) → dateIn (fieldsOf n) ≡ dateOf (pos (n / dayNanos + utcEpochDay))
 
 abbrev pub LaterCountsHaveNoEarlierDates : Type 0
-LaterCountsHaveNoEarlierDates = (n m : ℕ) → n ≤ m → NotAfter (fieldsOf n .date) (fieldsOf m .date)
+LaterCountsHaveNoEarlierDates = (n m : ℕ) → n ≤ m → NotAfter (dateIn (fieldsOf n)) (dateIn (fieldsOf m))
 
 -- the count of a date that the calendar has goes by the calendar's day
 abbrev pub RealDatesGoByTheCalendar : Type 0
-RealDatesGoByTheCalendar = (f : Fields) (z : ℤ) → dateOf z ≡ f .date → countAt f ≡ onDay (z -ℤ pos utcEpochDay) (timeOf f)
+RealDatesGoByTheCalendar = (c : CivilDateTime) (z : ℤ) → dateOf z ≡ dateIn c → countAt c ≡ onDay (z -ℤ pos utcEpochDay) (timeOf c)
 
 -- of the calls, by their contracts: `to_utc_nanos` answers n for what `from_utc_nanos` gives of n,
 -- and `from_utc_nanos` gives back real fields for which `to_utc_nanos` answers n
 abbrev pub CallsBringCountsBack : Type 0
 CallsBringCountsBack =
-    (n : ℕ) (c : CivilDateTime) (x : CountAnswer) → n < 2 ^ 64 → fieldsIn c ≡ fieldsOf n → countIn x ≡ countAt (fieldsIn c) → x ≡ Count n
+    (n : ℕ) (c : CivilDateTime) (x : CountAnswer) → n < 2 ^ 64 → c ≡ fieldsOf n → countIn x ≡ countAt c → x ≡ Count n
 
 abbrev pub CallsBringFieldsBack : Type 0
 CallsBringFieldsBack =
-    (c d : CivilDateTime) (n : ℕ) → RealFields (fieldsIn c) → countIn (Count n) ≡ countAt (fieldsIn c) → fieldsIn d ≡ fieldsOf n → d ≡ c
+    (c d : CivilDateTime) (n : ℕ) → RealFields c → countIn (Count n) ≡ countAt c → d ≡ fieldsOf n → d ≡ c
 
 -- fields that no clock shows are counted all the same: 2023-02-31 is 2023-03-03, and 255 hours of 1972-01-01 are 918,000 s
 abbrev pub FebruaryThirtyFirst : Type 0
-FebruaryThirtyFirst = countAt (midnight (pos 2023) 2 31) ≡ countAt (midnight (pos 2023) 3 3)
+FebruaryThirtyFirst = countAt (fields (pos 2023) 2 31 0 0 0 0) ≡ countAt (fields (pos 2023) 3 3 0 0 0 0)
 
 abbrev pub Hour255 : Type 0
-Hour255 = countAt (record { date = on (pos 1972) 1 1; hour = 255; minute = 0; second = 0; nanos = 0 }) ≡ answered (918000 * units.second)
+Hour255 = countAt (fields (pos 1972) 1 1 255 0 0 0) ≡ answered (918000 * units.second)
 
 -- ---- a count and back
 seconds-of-day : (s : ℕ) → s % 86400 / 3600 * 3600 + s % 3600 / 60 * 60 + s % 60 ≡ s % 86400
@@ -126,11 +135,23 @@ module _ (d h m s : ℕ) (few-hours : h < 24) (few-minutes : m < 60) (few-second
   back-second : seconds % 60 ≡ s
   back-second = omega arith
 
+-- a quotient by a part of a day is below the number of those parts
+pub fields-are-real : FieldsOfCountsAreReal
+fields-are-real n =
+    record {
+      date = real-date (pos (n / 1000000000 / 86400 + utcEpochDay));
+      hour = omega arith;
+      minute = omega arith;
+      second = omega arith;
+      nanos = omega arith;
+    }
+
 pub fields-back : RealFieldsComeBack
-fields-back f n r e = λ i. record { date = date i; hour = hour i; minute = minute i; second = second i; nanos = nanos i }
+fields-back f n r e =
+    λ i. fields (date i .year) (date i .month) (date i .day) (hour i) (minute i) (second i) (nanos i)
   where
-    a : Answered (dayOf (f .date) -ℤ pos utcEpochDay) (timeOf f) n
-    a = answered-on (dayOf (f .date) -ℤ pos utcEpochDay) (timeOf f) n e
+    a : Answered (dayOf (dateIn f) -ℤ pos utcEpochDay) (timeOf f) n
+    a = answered-on (dayOf (dateIn f) -ℤ pos utcEpochDay) (timeOf f) n e
 
     time : ℕ
     time = f .hour * 3600 + f .minute * 60 + f .second
@@ -162,12 +183,12 @@ fields-back f n r e = λ i. record { date = date i; hour = hour i; minute = minu
     second : n / 1000000000 % 60 ≡ f .second
     second = ap (λ (s : ℕ). s % 60) whole-seconds ∙ back-second (a .day) (f .hour) (f .minute) (f .second) (r .hour) (r .minute) (r .second)
 
-    date : dateOf (pos (n / 1000000000 / 86400 + utcEpochDay)) ≡ f .date
+    date : dateOf (pos (n / 1000000000 / 86400 + utcEpochDay)) ≡ dateIn f
     date =
         ap (λ (d : ℕ). dateOf (pos (d + utcEpochDay))) (ap (λ (s : ℕ). s / 86400) whole-seconds ∙ back-day (a .day) (f .hour)
         (f .minute) (f .second) (r .hour) (r .minute) (r .second))
-        ∙ ap dateOf (sym (sym (-ℤ-+ℤ-cancel (dayOf (f .date)) (pos utcEpochDay)) ∙ ap (λ (z : ℤ). z +ℤ pos utcEpochDay) (a .is)))
-        ∙ date-of-day (f .date) (r .date)
+        ∙ ap dateOf (sym (sym (-ℤ-+ℤ-cancel (dayOf (dateIn f)) (pos utcEpochDay)) ∙ ap (λ (z : ℤ). z +ℤ pos utcEpochDay) (a .is)))
+        ∙ date-of-day (dateIn f) (r .date)
 
 pub date-of-count : DateOfACountIsItsDays
 date-of-count n = ap (λ (d : ℕ). dateOf (pos (d + utcEpochDay))) (days n)
@@ -182,14 +203,14 @@ later-counts n m h = no-earlier-dates (n / 1000000000 / 86400 + utcEpochDay) (m 
     days n m h = omega arith
 
 pub by-the-calendar : RealDatesGoByTheCalendar
-by-the-calendar f z e = ap (λ (d : ℤ). onDay (d -ℤ pos utcEpochDay) (timeOf f)) (ap dayOf (sym e) ∙ day-of-date z)
+by-the-calendar c z e = ap (λ (d : ℤ). onDay (d -ℤ pos utcEpochDay) (timeOf c)) (ap dayOf (sym e) ∙ day-of-date z)
 
 -- ---- the calls
 pub calls-bring-counts-back : CallsBringCountsBack
 calls-bring-counts-back n c x h e f = count-tells x (Count n) (f ∙ ap countAt e ∙ count-back n h)
 
 pub calls-bring-fields-back : CallsBringFieldsBack
-calls-bring-fields-back c d n r e f = fields-tell d c (f ∙ fields-back (fieldsIn c) n r (sym e))
+calls-bring-fields-back c d n r e f = f ∙ fields-back c n r (sym e)
 
 -- ---- computed
 pub february-31 : FebruaryThirtyFirst

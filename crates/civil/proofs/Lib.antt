@@ -1,4 +1,3 @@
 pub mod Days
-pub mod Tells
 pub mod CivilTheorems
 pub mod Calls

@@ -1,6 +1,6 @@
 -- A date and a time of day in UTC, the fields of a count, and the count of any fields.
 use mathlib.Core.Bool.{cond}
-use Prim.Native.Nat.{ℕ, _+_, _*_, _/_, _%_, _<_}
+use Prim.Native.Nat.{ℕ, _+_, _*_, _/_, _%_}
 use lib.IntN.{ℤ, pos, natAbs, _-ℤ_}
 use lib.Signed.{nonNeg}
 use Rattle.refusals.specs.Outcome.{Outcome, refused}
@@ -11,48 +11,30 @@ use Rattle.calendar.specs.Formula.{dayOf}
 use Rattle.calendar.specs.Dates.{utcEpochDay}
 use Rattle.civil.specs.declared.CivilDateTime.{CivilDateTime}
 
--- fields, whether or not a clock shows them
-pub record Fields : Type 0 where
-  pub date : calendar.Date
-  pub hour : ℕ
-  pub minute : ℕ
-  pub second : ℕ
-  pub nanos : ℕ
+-- fields one by one, whether or not a clock shows them
+abbrev pub fields : ℤ → ℕ → ℕ → ℕ → ℕ → ℕ → ℕ → CivilDateTime
+fields y mo d h mi s n = record { year = y; month = mo; day = d; hour = h; minute = mi; second = s; nanos = n }
 
-abbrev pub fieldsIn : CivilDateTime → Fields
-fieldsIn c = record { date = calendar.on (c .year) (c .month) (c .day); hour = c .hour; minute = c .minute; second = c .second; nanos = c .nanos }
+abbrev pub dateIn : CivilDateTime → calendar.Date
+dateIn c = calendar.on (c .year) (c .month) (c .day)
 
--- fields that a clock shows
-pub record RealFields (f : Fields) : Type 0 where
-  pub date : calendar.Real (f .date)
-  pub hour : f .hour < 24
-  pub minute : f .minute < 60
-  pub second : f .second < 60
-  pub nanos : f .nanos < units.second
-
--- the fields of so many seconds and nanoseconds from 1972-01-01 on
-abbrev pub fieldsAt : ℕ → ℕ → Fields
-fieldsAt s n =
-    record {
-      date = calendar.dateOf (pos (s / units.daySeconds + utcEpochDay));
-      hour = s % units.daySeconds / 3600;
-      minute = s % 3600 / 60;
-      second = s % 60;
-      nanos = n;
-    }
+-- a date, and the time of day of so many seconds since a midnight, and nanoseconds
+abbrev pub fieldsOn : calendar.Date → ℕ → ℕ → CivilDateTime
+fieldsOn d s n = fields (d .year) (d .month) (d .day) (s % units.daySeconds / 3600) (s % 3600 / 60) (s % 60) n
 
 -- the fields of a count
-abbrev pub fieldsOf : ℕ → Fields
-fieldsOf n = fieldsAt (n / units.second) (n % units.second)
+abbrev pub fieldsOf : ℕ → CivilDateTime
+fieldsOf n =
+    fieldsOn (calendar.dateOf (pos (n / units.second / units.daySeconds + utcEpochDay))) (n / units.second) (n % units.second)
 
 -- the nanoseconds of the time of day, whatever its fields
-abbrev pub timeOf : Fields → ℕ
-timeOf f = (f .hour * 3600 + f .minute * 60 + f .second) * units.second + f .nanos
+abbrev pub timeOf : CivilDateTime → ℕ
+timeOf c = (c .hour * 3600 + c .minute * 60 + c .second) * units.second + c .nanos
 
 -- the count of a time on a day from 1972-01-01 on: 1 before it, and where the sum is no count
 abbrev pub onDay : ℤ → ℕ → Outcome ℕ
 onDay d t = cond (nonNeg d) (countOf (pos (natAbs d * (units.daySeconds * units.second) + t))) (refused 1)
 
 -- the count of any fields, by the day that the formula gives their date
-abbrev pub countAt : Fields → Outcome ℕ
-countAt f = onDay (dayOf (f .date) -ℤ pos utcEpochDay) (timeOf f)
+abbrev pub countAt : CivilDateTime → Outcome ℕ
+countAt c = onDay (dayOf (dateIn c) -ℤ pos utcEpochDay) (timeOf c)

@@ -6,7 +6,7 @@ ghost use lib.Dec.{eqb};
 ghost use Rattle.counts.specs.Answers.{countIn};
 ghost use Rattle.scales.specs.Answers.{utcIn};
 ghost use Rattle.calendar.specs.Dates.{utcEpochDay};
-ghost use Rattle.civil.specs.Fields.{fieldsIn, fieldsOf, timeOf, onDay, countAt};
+ghost use Rattle.civil.specs.Fields.{fieldsOf, timeOf, onDay, countAt};
 use calendar::CivilDate;
 use calendar::engine;
 use counts::CountAnswer;
@@ -58,7 +58,7 @@ fn count_on_day(unix_day: i64, time: u64) -> CountAnswer
 impl CivilDateTime {
     // The fields of a count.
     pub fn from_utc_nanos(count: u64) -> CivilDateTime
-        ensures { λ r. ⌜ fieldsIn r ≡ fieldsOf count ⌝ }
+        ensures { λ r. ⌜ r ≡ fieldsOf count ⌝ }
     {
         let seconds = count / NANOS_PER_SECOND;
         let date = engine::date_of_utc_day((seconds / SECONDS_PER_DAY) as u32);
@@ -75,7 +75,7 @@ impl CivilDateTime {
 
     // The nanoseconds of the time of day.
     fn time_of_day(self) -> u64
-        ensures { λ r. ⌜ r ≡ timeOf (fieldsIn self) ⌝ }
+        ensures { λ r. ⌜ r ≡ timeOf self ⌝ }
     {
         let hour = self.hour as u64;
         let minute = self.minute as u64;
@@ -86,7 +86,7 @@ impl CivilDateTime {
 
     // The count of the fields: refused before 1972-01-01, and where it does not fit.
     pub fn to_utc_nanos(self) -> CountAnswer
-        ensures { λ r. ⌜ countIn r ≡ countAt (fieldsIn self) ⌝ }
+        ensures { λ r. ⌜ countIn r ≡ countAt self ⌝ }
     {
         let date = CivilDate {
             year: self.year,
@@ -98,7 +98,7 @@ impl CivilDateTime {
 
     // The same as a count of its scale.
     pub fn to_utc(self) -> UtcAnswer
-        ensures { λ r. ⌜ utcIn r ≡ countAt (fieldsIn self) ⌝ }
+        ensures { λ r. ⌜ utcIn r ≡ countAt self ⌝ }
     {
         UtcAnswer::of(self.to_utc_nanos())
     }
@@ -113,7 +113,7 @@ impl CivilDateTime {
 
 // The fields of a UTC count.
 pub fn to_civil(utc: Utc) -> CivilDateTime
-    ensures { λ r. ⌜ fieldsIn r ≡ fieldsOf (utc .0) ⌝ }
+    ensures { λ r. ⌜ r ≡ fieldsOf (utc .0) ⌝ }
 {
     CivilDateTime::from_utc_nanos(utc.0)
 }

@@ -1,13 +1,13 @@
 -- The engine gives the date of the count's day, and quotients and rests its time.
 use mathlib.Core.Path.{ap, _∙_}
-use Prim.Native.Nat.{ℕ, _/_, _%_}
+use Prim.Native.Nat.{_/_, _%_}
 use native.Mathlib.Omega.{arith}
 use lib.IntN.{ℤ}
 use mir.Syntax.{w32}
 use mir.Val.{SFits}
 use mir.Facts.{toZ-ofZ}
 use Rattle.calendar.specs.Calendar.{Date, on}
-use Rattle.civil.specs.Fields.{Fields}
+use Rattle.civil.specs.Fields.{fieldsOn}
 use borrow.Author.Needs.{needs}
 use Rattle.civil.proofs.CivilDateTime.from_utc_nanos.Statement.{statement}
 use Rattle.civil.proofs.CivilDateTime.from_utc_nanos.Tie as tie
@@ -35,17 +35,8 @@ returns c =
     let d = c .before .date-of-utc-day in
     let fits : SFits w32 (d .result .year) = record { sfits = omega arith } in
     let n = c .before .before .args .count in
-    ap (λ (x : Date). at n x) (ap (λ (y : ℤ). on y (d .result .month) (d .result .day)) (toZ-ofZ fits) ∙ d .ensures)
-  where
-    at : ℕ → Date → Fields
-    at n x =
-        record {
-          date = x;
-          hour = n / 1000000000 % 86400 / 3600;
-          minute = n / 1000000000 % 3600 / 60;
-          second = n / 1000000000 % 60;
-          nanos = n % 1000000000;
-        }
+    ap (λ (x : Date). fieldsOn x (n / 1000000000) (n % 1000000000))
+    (ap (λ (y : ℤ). on y (d .result .month) (d .result .day)) (toZ-ofZ fits) ∙ d .ensures)
 
 pub from-utc-nanos-spec : {M : Type 1} → statement M
 from-utc-nanos-spec =
