@@ -39,7 +39,7 @@ pub record RealFields (c : CivilDateTime) : Type 0 where
 abbrev pub CountsComeBack : Type 0
 CountsComeBack = (n : ℕ) → n < 2 ^ 64 → countAt (fieldsOf n) ≡ answered n
 
--- which fields are real is told from both sides: those of every count are, and no others come back from their count
+-- which fields are real is told from both sides: those of every count are, and those that are come back from their count
 abbrev pub FieldsOfCountsAreReal : Type 0
 FieldsOfCountsAreReal = (n : ℕ) → RealFields (fieldsOf n)
 

@@ -3,8 +3,6 @@ pub mod Outcomes
 pub mod Ends
 pub mod Cutting
 pub mod Feeding
-pub mod Turns
 pub mod WholeInput
-pub mod WholeRun
 pub mod ReadBack
 pub mod Calls

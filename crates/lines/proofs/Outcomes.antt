@@ -1,5 +1,5 @@
 -- An answer by its steps: where a step answers, what the next gives of it; where it refuses, the refusal. And its length.
-use mathlib.Core.Path.{_≡_, refl, sym, ap, subst}
+use mathlib.Core.Path.{_≡_, sym, ap}
 use mathlib.Core.Bool.{Bool, true, false, cond}
 use mathlib.Core.List.{List, [], _∷_}
 use Prim.Native.Nat.{ℕ, _≤_, _<_}
@@ -10,13 +10,12 @@ use lib.ListN.{length, length-append}
 use Rattle.refusals.specs.Outcome.{Outcome, answered, refused}
 use Rattle.conversions.specs.Conversions.{then, gpsToUtc, utcToGps}
 use Rattle.civil.specs.Fields.{countAt}
+use Rattle.civil.specs.declared.CivilDateTime.{CivilDateTime}
 use Rattle.builtin.specs.Builtin.{builtin}
 use Rattle.digits.specs.Decimal.{countRead, placesUpTo, decimal}
 use Rattle.digits.proofs.WayBack.{decimal-length}
-use Rattle.stamps.specs.declared.Stamp.{Stamp}
-use Rattle.stamps.specs.Form.{Fits, fieldsAt, first, last, within, stampRead}
-use Rattle.stamps.proofs.Fields.{fits}
-use Rattle.lines.specs.Answers.{fieldsIn, civilOf, civilOfGps, civilOfLine, gpsOfUtc, gpsOfStamp, gpsOfLine, lineOf, outcomeOf, answerTo}
+use Rattle.stamps.specs.Form.{stampRead}
+use Rattle.lines.specs.Answers.{civilOf, civilOfGps, civilOfLine, gpsOfUtc, gpsOfFields, gpsOfLine, lineOf, outcomeOf, answerTo}
 use Rattle.lines.specs.declared.Way.{Way}
 use Rattle.lines.specs.declared.Way.the-variants.{ToCivil, ToGps}
 
@@ -46,14 +45,14 @@ module _ (utc : ℕ) where
   unfolding gpsOfUtc
   utc-refused k e = stays (utcToGps builtin utc) (λ g. answered (decimal g)) k e
 
-module _ (s : Stamp) where
-  pub stamp-answered : (utc : ℕ) → answered utc ≡ countAt (fieldsIn s) → gpsOfStamp s ≡ gpsOfUtc utc
-  unfolding gpsOfStamp
-  stamp-answered utc e = goes-on (countAt (fieldsIn s)) gpsOfUtc utc e
+module _ (s : CivilDateTime) where
+  pub fields-answered : (utc : ℕ) → answered utc ≡ countAt s → gpsOfFields s ≡ gpsOfUtc utc
+  unfolding gpsOfFields
+  fields-answered utc e = goes-on (countAt s) gpsOfUtc utc e
 
-  pub stamp-refused : (k : ℕ) → refused k ≡ countAt (fieldsIn s) → gpsOfStamp s ≡ refused k
-  unfolding gpsOfStamp
-  stamp-refused k e = stays (countAt (fieldsIn s)) gpsOfUtc k e
+  pub fields-refused : (k : ℕ) → refused k ≡ countAt s → gpsOfFields s ≡ refused k
+  unfolding gpsOfFields
+  fields-refused k e = stays (countAt s) gpsOfUtc k e
 
 module _ (l : List ℕ) where
   pub digits-answered : (gps : ℕ) → answered gps ≡ countRead l → civilOfLine l ≡ civilOfGps gps
@@ -64,13 +63,13 @@ module _ (l : List ℕ) where
   unfolding civilOfLine
   digits-refused k e = stays (countRead l) civilOfGps k e
 
-  pub form-answered : (s : Stamp) → answered s ≡ stampRead l → gpsOfLine l ≡ gpsOfStamp s
+  pub form-answered : (s : CivilDateTime) → answered s ≡ stampRead l → gpsOfLine l ≡ gpsOfFields s
   unfolding gpsOfLine
-  form-answered s e = goes-on (stampRead l) gpsOfStamp s e
+  form-answered s e = goes-on (stampRead l) gpsOfFields s e
 
   pub form-refused : (k : ℕ) → refused k ≡ stampRead l → gpsOfLine l ≡ refused k
   unfolding gpsOfLine
-  form-refused k e = stays (stampRead l) gpsOfStamp k e
+  form-refused k e = stays (stampRead l) gpsOfFields k e
 
   pub long-line : (way : Way) → 127 < length l → answerTo way l ≡ lineOf (refused 10)
   unfolding answerTo
@@ -103,9 +102,9 @@ utc-short : (utc : ℕ) → Short (gpsOfUtc utc)
 unfolding gpsOfUtc
 utc-short utc = then-short (utcToGps builtin utc) (λ g. answered (decimal g)) gps-short
 
-stamp-short : (s : Stamp) → Short (gpsOfStamp s)
-unfolding gpsOfStamp
-stamp-short s = then-short (countAt (fieldsIn s)) gpsOfUtc utc-short
+fields-short : (s : CivilDateTime) → Short (gpsOfFields s)
+unfolding gpsOfFields
+fields-short s = then-short (countAt s) gpsOfUtc utc-short
 
 count-short : (gps : ℕ) → Short (civilOfGps gps)
 unfolding civilOfGps
@@ -114,7 +113,7 @@ count-short gps = then-short (gpsToUtc builtin gps) (λ u. answered (civilOf u))
 outcome-short : (way : Way) (l : List ℕ) → Short (outcomeOf way l)
 unfolding civilOfLine gpsOfLine
 outcome-short ToCivil l = then-short (countRead l) civilOfGps count-short
-outcome-short ToGps l = then-short (stampRead l) gpsOfStamp stamp-short
+outcome-short ToGps l = then-short (stampRead l) gpsOfFields fields-short
 
 pub answer-short : (way : Way) (l : List ℕ) → length (answerTo way l) ≤ 31
 unfolding answerTo
@@ -129,17 +128,3 @@ pub empty-short : (way : Way) → length (answerTo way []) ≤ 16
 unfolding answerTo civilOfLine gpsOfLine stampRead placesUpTo
 empty-short ToCivil = lit≤ tt
 empty-short ToGps = lit≤ tt
-
--- ---- the fields of a line in the form fit
-pub read-fits : (l : List ℕ) (s : Stamp) → answered s ≡ stampRead l → Fits s
-unfolding stampRead
-read-fits l s e = by-form (within first last l) refl e
-  where
-    never : _≡_ {A = ℕ} 0 1 → ⊥
-    never z = omega arith
-
-    by-form : (t : Bool) → within first last l ≡ t → answered s ≡ cond t (answered (fieldsAt l)) (refused 10) → Fits s
-    by-form true formed e =
-        let same : fieldsAt l ≡ s = cc in
-        subst Fits same (fits l formed)
-    by-form false formed e = let z : _≡_ {A = ℕ} 0 1 = cc in absurd (never z)

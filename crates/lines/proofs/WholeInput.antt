@@ -1,4 +1,5 @@
--- What is written for a whole input is the answers to its lines, however the input is cut into pieces.
+-- What is written for a whole input is the answers to its lines, wherever it is cut: a piece carries on the line that those before
+-- it left begun.
 use mathlib.Core.Path.{_≡_, refl, sym, ap, _∙_}
 use mathlib.Core.Bool.{Bool, true, false, cond}
 use mathlib.Core.List.{List, [], _∷_, _++_, append-nil, append-assoc}
@@ -11,25 +12,34 @@ use lib.ListN.{length, take, length-append}
 use lib.Seq.{take-all, take-append-le, length-take-le}
 use Rattle.lines.specs.Lines.{onto, linesOf, answers}
 use Rattle.lines.specs.Answers.{answerTo}
-use Rattle.lines.specs.Pieces.{grown, carriedOn, written, atEnd, writtenInAll}
+use Rattle.lines.specs.Pieces.{carriedOn, written, atEnd}
 use Rattle.lines.specs.declared.Way.{Way}
 use Rattle.lines.proofs.Outcomes.{long-line}
 use Rattle.lines.proofs.Cutting.{carried-joins, written-joins, clipped}
 
--- ---- the statements
--- a piece and then another is both of them at once
-abbrev pub PiecesJoin : Type 0
-PiecesJoin =
-    (f : List ℕ → List ℕ) (c a b : List ℕ)
-    → (carriedOn c (a ++ b) ≡ carriedOn (carriedOn c a) b) × (written f c (a ++ b) ≡ written f c a ++ written f (carriedOn c a) b)
+-- ---- the statement
+-- an input, cut into blocks
+abbrev pub joined : List (List ℕ) → List ℕ
+joined [] = []
+joined (b ∷ bs) = b ++ joined bs
 
--- all that is written is the answers to the lines
-abbrev pub AnswersToTheLines : Type 0
-AnswersToTheLines = (way : Way) (s : List ℕ) → writtenInAll (answerTo way) s ≡ answers (answerTo way) (linesOf s)
+-- what `feed` writes for one block after another, each with the line that the one before left begun, and `finish` at the end
+abbrev pub writtenByBlocks : (List ℕ → List ℕ) → List ℕ → List (List ℕ) → List ℕ
+writtenByBlocks f c [] = atEnd f c
+writtenByBlocks f c (b ∷ bs) = written f c b ++ writtenByBlocks f (carriedOn c b) bs
 
--- ---- pieces
-pub pieces-join : PiecesJoin
-pieces-join f c a b = (carried-joins c a b, written-joins f c a b)
+-- it is the answers to the lines of the input, wherever it is cut
+abbrev pub CutAnywhere : Type 0
+CutAnywhere = (way : Way) (blocks : List (List ℕ)) → writtenByBlocks (answerTo way) [] blocks ≡ answers (answerTo way) (linesOf (joined blocks))
+
+-- ---- blocks
+all-at-once : (f : List ℕ → List ℕ) (c : List ℕ) (bs : List (List ℕ)) → writtenByBlocks f c bs ≡ written f c (joined bs) ++ atEnd f (carriedOn c (joined bs))
+all-at-once f c [] = refl
+all-at-once f c (b ∷ bs) =
+    let next = carriedOn c b in
+    ap (λ (l : List ℕ). written f c b ++ l) (all-at-once f next bs)
+    ∙ sym (append-assoc (written f c b) (written f next (joined bs)) (atEnd f (carriedOn next (joined bs))))
+    ∙ (λ i. sym (written-joins f c b (joined bs)) i ++ atEnd f (sym (carried-joins c b (joined bs)) i))
 
 -- ---- lines
 -- a line that has begun, before the lines of the rest
@@ -77,5 +87,5 @@ first-128 way l = by-length (decLe (length l) 128)
         let full : length (take 128 l) ≡ 128 = length-take-le 128 l (omega (arith, h)) in
         long-line (take 128 l) way (omega arith) ∙ sym (long-line l way (omega (arith, h)))
 
-pub answers-to-the-lines : AnswersToTheLines
-answers-to-the-lines way s = from-line (answerTo way) (first-128 way) s []
+pub cut-anywhere : CutAnywhere
+cut-anywhere way blocks = all-at-once (answerTo way) [] blocks ∙ from-line (answerTo way) (first-128 way) (joined blocks) []

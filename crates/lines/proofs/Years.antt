@@ -7,17 +7,14 @@ use native.Mathlib.Omega.{arith}
 use lib.Dec.{T, leb, leb→le, ltb→lt}
 use lib.IntN.{ℤ, pos, negsuc, natAbs}
 use lib.Signed.{ltZ}
-use mir.Syntax.{w32}
-use mir.Val.{SFits}
-use Rattle.calendar.specs.Calendar.{Date, Real, on, leap, daysIn, unixEpoch, dateOf}
+use Rattle.calendar.specs.Calendar.{Date, on, leap, daysIn, unixEpoch, dateOf}
 use Rattle.calendar.specs.Formula.{era, yoe, doy, doe, formula}
 use Rattle.calendar.proofs.Tested.{every, at}
-use Rattle.calendar.proofs.RealDates.{real}
+use Rattle.calendar.proofs.RealDates.{Real, real}
 use Rattle.calendar.proofs.CalendarTheorems.{real-date, date-of-day}
 use Rattle.calendar.proofs.DateOrder.{by-year, by-month, by-day, NotAfter, no-earlier-dates}
-use Rattle.civil.specs.Fields.{fieldsOf}
+use Rattle.civil.specs.Fields.{dateIn, fieldsOf}
 use Rattle.stamps.specs.Form.{Fits}
-use Rattle.lines.specs.Answers.{stampOf}
 
 first-day : dateOf (pos 0) ≡ unixEpoch
 unfolding dateOf
@@ -76,17 +73,18 @@ tested-short true = tt
 tested-short false = tt
 
 module _ (n : ℕ) (count : n < 2 ^ 64) where
-  pub year-is : fieldsOf n .date .year ≡ pos (natAbs (fieldsOf n .date .year))
+  pub year-is : fieldsOf n .year ≡ pos (natAbs (fieldsOf n .year))
   year-is =
-      natural (fieldsOf n .date)
-      (subst (λ (d : Date). NotAfter d (fieldsOf n .date)) first-day (no-earlier-dates 0 (n / 1000000000 / 86400 + 730) zero-le))
+      natural (dateIn (fieldsOf n))
+      (subst (λ (d : Date). NotAfter d (dateIn (fieldsOf n))) first-day (no-earlier-dates 0 (n / 1000000000 / 86400 + 730) zero-le))
 
-  pub fits-form : Fits (stampOf (fieldsOf n))
+  pub fits-form : Fits (fieldsOf n)
   fits-form =
-      let d = fieldsOf n .date in
+      let d = dateIn (fieldsOf n) in
       let r = real-date (pos (n / 1000000000 / 86400 + 730)) in
       let most = leb→le (daysIn (leap (d .year)) (d .month)) 31 (at (short (leap (d .year))) 13 (tested-short (leap (d .year))) (d .month) (omega (arith, r .month-to))) in
       record {
+        natural = year-is;
         year = four-digits d (subst (λ (e : Date). NotAfter d e) last-day (no-earlier-dates (n / 1000000000 / 86400 + 730) 2932896 (omega arith))) year-is;
         month = omega (arith, r .month-to);
         day = omega (arith, r .day-to, most);
@@ -95,7 +93,3 @@ module _ (n : ℕ) (count : n < 2 ^ 64) where
         second = omega arith;
         nanos = omega arith;
       }
-
-  -- the year as a signed number of 32 bits
-  pub fits-32 : (y : ℤ) → y ≡ fieldsOf n .date .year → SFits w32 y
-  fits-32 y e = subst (SFits w32) (sym (e ∙ year-is)) (record { sfits = omega (arith, fits-form .year) })

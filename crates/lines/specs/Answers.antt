@@ -4,46 +4,21 @@ use Prim.Native.Nat.{ℕ, _+_}
 use mathlib.Core.Bool.{cond}
 use mathlib.Core.List.{List, [], _∷_, _++_}
 use lib.Dec.{leb, ltb}
-use lib.IntN.{pos, natAbs}
 use lib.ListN.{length}
 use lib.Seq.{sets}
 use Rattle.refusals.specs.Outcome.{Outcome, answered, refused}
-use Rattle.calendar.specs.Calendar.{on}
-use Rattle.civil.specs.Fields.{Fields, fieldsOf, countAt}
+use Rattle.civil.specs.Fields.{fieldsOf, countAt}
+use Rattle.civil.specs.declared.CivilDateTime.{CivilDateTime}
 use Rattle.conversions.specs.Conversions.{then, gpsToUtc, utcToGps}
 use Rattle.builtin.specs.Builtin.{builtin}
 use Rattle.digits.specs.Decimal.{countRead, decimal}
-use Rattle.stamps.specs.declared.Stamp.{Stamp}
 use Rattle.stamps.specs.Form.{stampRead, written}
 use Rattle.lines.specs.declared.Way.{Way}
 use Rattle.lines.specs.declared.Way.the-variants.{ToCivil, ToGps}
 
--- the fields of a date and time as the form has them, and back
-abbrev pub stampOf : Fields → Stamp
-stampOf f =
-    record {
-      year = natAbs (f .date .year);
-      month = f .date .month;
-      day = f .date .day;
-      hour = f .hour;
-      minute = f .minute;
-      second = f .second;
-      nanos = f .nanos;
-    }
-
-abbrev pub fieldsIn : Stamp → Fields
-fieldsIn s =
-    record {
-      date = on (pos (s .year)) (s .month) (s .day);
-      hour = s .hour;
-      minute = s .minute;
-      second = s .second;
-      nanos = s .nanos;
-    }
-
 -- the form of a UTC count
 unfoldable pub civilOf : ℕ → List ℕ
-civilOf utc = written (stampOf (fieldsOf utc))
+civilOf utc = written (fieldsOf utc)
 
 -- gpscivil: a GPS count in digits gives the form of its UTC count
 unfoldable pub civilOfGps : ℕ → Outcome (List ℕ)
@@ -56,11 +31,11 @@ civilOfLine l = then (countRead l) civilOfGps
 unfoldable pub gpsOfUtc : ℕ → Outcome (List ℕ)
 gpsOfUtc utc = then (utcToGps builtin utc) (λ gps. answered (decimal gps))
 
-unfoldable pub gpsOfStamp : Stamp → Outcome (List ℕ)
-gpsOfStamp s = then (countAt (fieldsIn s)) gpsOfUtc
+unfoldable pub gpsOfFields : CivilDateTime → Outcome (List ℕ)
+gpsOfFields c = then (countAt c) gpsOfUtc
 
 unfoldable pub gpsOfLine : List ℕ → Outcome (List ℕ)
-gpsOfLine l = then (stampRead l) gpsOfStamp
+gpsOfLine l = then (stampRead l) gpsOfFields
 
 -- the bytes of `refused `
 abbrev pub refusedWord : List ℕ

@@ -1,4 +1,3 @@
 pub mod Lines
 pub mod Answers
 pub mod Pieces
-pub mod Runs

@@ -1,4 +1,5 @@
--- What the bytes of an input leave begun and have written, piece by piece.
+-- What the bytes of an input leave begun and have written, piece by piece. Only the contracts of functions in `inner` cite these
+-- definitions: what they come to for a whole input is in proofs/WholeInput.antt.
 use mathlib.Core.Path.{_≡_}
 use Prim.Native.Nat.{ℕ, zero, suc, _+_, _≤_}
 use mathlib.Core.Bool.{Bool, true, cond, not, _&&_}
@@ -6,6 +7,8 @@ use mathlib.Core.List.{List, [], _∷_, _++_}
 use lib.Dec.{eqb, ltb}
 use lib.ListN.{length, take, drop}
 use Rattle.lines.specs.Answers.{Puts}
+use Rattle.lines.specs.declared.inner.Step.{Step}
+use Rattle.lines.specs.declared.inner.Step.the-variants.{More, Ended, CannotRead, CannotWrite}
 
 -- a line that has begun, and a byte more: at most 128 of its bytes are kept
 abbrev pub grown : List ℕ → ℕ → List ℕ
@@ -25,10 +28,6 @@ written f c (b ∷ bs) = cond (eqb b 10) (f c) [] ++ written f (grown c b) bs
 abbrev pub atEnd : (List ℕ → List ℕ) → List ℕ → List ℕ
 atEnd f [] = []
 atEnd f (b ∷ bs) = f (b ∷ bs)
-
--- what a whole input has written: the last line is answered at its end
-abbrev pub writtenInAll : (List ℕ → List ℕ) → List ℕ → List ℕ
-writtenInAll f s = written f [] s ++ atEnd f (carriedOn [] s)
 
 -- of a buffer and an output, before and after a piece: the buffer holds the line that has begun, the output what is written
 pub record Feeds (f : List ℕ → List ℕ) (c piece out line′ : List ℕ) (used′ : ℕ) (out′ : List ℕ) (made : ℕ) : Type 0 where
@@ -50,3 +49,11 @@ untilEnd (b ∷ bs) = cond (eqb b 10) 0 (suc (untilEnd bs))
 -- none of the first i bytes is a byte 10
 abbrev pub Skips : List ℕ → ℕ → Type 0
 Skips s i = (untilEnd s ≡ i + untilEnd (drop i s)) × (i ≤ length s)
+
+-- ---- a turn of a run
+-- the line buffer holds what it says
+abbrev pub Held : Step → Type 0
+Held (More used) = used ≤ 128
+Held Ended = Unit {0}
+Held CannotRead = Unit {0}
+Held CannotWrite = Unit {0}

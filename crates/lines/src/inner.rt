@@ -1,15 +1,20 @@
 // A program's run: standard input in blocks, each block's answers written before the next is read. What cannot be read or
 // written is said on standard error, and ends the run.
+// `feed` and `finish` are proved to write the answers to the lines, wherever the blocks cut the input (proofs/WholeInput.antt).
+// Left to reading, in `pass`, `turn` and `turns`: which bytes the C library's read and write move, and that the loop makes these turns.
 pub mod answer;
 pub mod blocks;
 
 ghost use mathlib.Core.Path.{_≡_};
 ghost use Prim.Native.Nat.{_+_, _*_, _≤_};
-ghost use lib.ListN.{length, take};
-ghost use Rattle.lines.specs.Runs.{Finished, Turned, TakesAll, Ran};
+ghost use lib.ListN.{length};
+ghost use Rattle.lines.specs.Pieces.{Held};
 use crate::Way;
 use crate::inner::blocks::feed;
 use crate::inner::blocks::finish;
+use crate::inner::blocks::least;
+use libc::EAGAIN;
+use libc::EINTR;
 use libc::STDERR_FILENO;
 use libc::STDIN_FILENO;
 use libc::STDOUT_FILENO;
@@ -31,85 +36,102 @@ pub fn answer_buffer() -> [u8; 1048607]
 // The bytes of a block, in and out: 64 KiB.
 const BLOCK: usize = 65536;
 
-// Writes bytes to standard output in blocks; whether all could be written.
-fn write_blocks(bytes: &[u8]) -> bool {
+// Lets others run for a while.
+fn pause() {
+    libc::sched_yield();
+}
+
+// Whether a read or a write that answered `got` moved nothing and never will. One that was interrupted is made again, and
+// so is one that found no byte or no room yet, after a pause.
+fn failed(got: isize) -> bool {
+    if got > 0 {
+        return false;
+    }
+    if got == 0 {
+        return true;
+    }
+    let reason = os::errno();
+    if reason == EINTR {
+        return false;
+    }
+    if reason == EAGAIN {
+        pause();
+        return false;
+    }
+    true
+}
+
+// Writes bytes to standard output, a block at a time; whether all could be written. The u64::MAX budget exists only so that
+// the loop provably ends.
+fn write_out(bytes: &[u8]) -> bool {
     let mut at: usize = 0;
-    while bytes.len() - at > BLOCK {
-        let next = at + BLOCK;
-        if !io::write_all(STDOUT_FILENO, &bytes[at..next]) {
+    let mut left = u64::MAX;
+    while left > 0 {
+        if at == bytes.len() {
+            return true;
+        }
+        let next = at + least(bytes.len() - at, BLOCK);
+        let got = libc::write(STDOUT_FILENO, &bytes[at..next]);
+        if failed(got) {
             return false;
         }
-        at = next;
+        at += io::count(got, &bytes[at..next]);
+        left -= 1;
     }
-    io::write_all(STDOUT_FILENO, &bytes[at..])
+    false
 }
 
-// What a turn has done: bytes of the block that were read, the used length of the line buffer, bytes of answers that were
-// handed to the write.
-pub struct Taken {
-    pub read: usize,
-    pub used: usize,
-    pub made: usize,
-}
-
-// What came of a turn. At the end of the input the number is that of the bytes of the last answer.
+// What came of a turn; where there may be more to read, the used length of the line buffer.
 pub enum Step {
-    More(Taken),
-    Ended(usize),
+    More(usize),
+    Ended,
     CannotRead,
-    CannotWrite(Taken),
-    CannotEnd(usize),
+    CannotWrite,
 }
 
 // The end of the input: answers a line that has begun.
 fn last(way: Way, line: &[u8], used: usize, out: &mut [u8]) -> Step
     requires { ⌜ used ≤ length (now line) ⌝ }
     requires { ⌜ 31 ≤ length (now out) ⌝ }
-    ensures { λ r. ⌜ Finished way (take used (now (line .entry))) (now (out .exit)) r ⌝ }
+    ensures { λ r. ⌜ Held r ⌝ }
 {
     let made = finish(way, line, used, out);
-    if write_blocks(&out[0..made]) {
-        Step::Ended(made)
+    if write_out(&out[0..made]) {
+        Step::Ended
     } else {
-        Step::CannotEnd(made)
+        Step::CannotWrite
     }
 }
 
-// The bytes of a block that was read: feeds them, and writes what was made.
+// Feeds the bytes of a block, and writes what was made.
 fn pass(way: Way, line: &mut [u8], used: usize, block: &[u8], out: &mut [u8]) -> Step
     requires { ⌜ length (now line) ≡ 128 ⌝ }
     requires { ⌜ used ≤ 128 ⌝ }
     requires { ⌜ 16 * length (now block) + 31 ≤ length (now out) ⌝ }
-    ensures { λ r. ⌜ Turned way (take used (now (line .entry))) (now (block .entry)) (now (line .exit)) (now (out .exit)) r ⌝ }
-    ensures { λ r. ⌜ TakesAll (now (block .entry)) r ⌝ }
+    ensures { λ r. ⌜ Held r ⌝ }
 {
     let fed = feed(way, line, used, block, out);
     let made = fed.made;
-    let taken = Taken {
-        read: block.len(),
-        used: fed.used,
-        made: made,
-    };
-    if write_blocks(&out[0..made]) {
-        Step::More(taken)
+    if write_out(&out[0..made]) {
+        Step::More(fed.used)
     } else {
-        Step::CannotWrite(taken)
+        Step::CannotWrite
     }
 }
 
-// Reads a block and passes it on.
+// Reads a block and passes it on. A read that is to be made again passes on no byte.
 fn turn(way: Way, line: &mut [u8], used: usize, block: &mut [u8], out: &mut [u8]) -> Step
     requires { ⌜ length (now line) ≡ 128 ⌝ }
     requires { ⌜ used ≤ 128 ⌝ }
     requires { ⌜ 16 * length (now block) + 31 ≤ length (now out) ⌝ }
-    ensures { λ r. ⌜ Turned way (take used (now (line .entry))) (now (block .exit)) (now (line .exit)) (now (out .exit)) r ⌝ }
+    ensures { λ r. ⌜ Held r ⌝ }
 {
     let got = libc::read(STDIN_FILENO, block);
-    if got < 0 {
-        return Step::CannotRead;
-    }
     if got == 0 {
         return last(way, line, used, out);
+    }
+    if failed(got) {
+        return Step::CannotRead;
     }
     let n = io::count(got, block);
     pass(way, line, used, &block[0..n], out)
@@ -128,31 +150,28 @@ fn say(way: Way, what: &[u8]) {
 fn explain(way: Way, step: Step) {
     match step {
         Step::CannotRead => say(way, b"cannot read\n"),
-        Step::CannotWrite(_) => say(way, b"cannot write\n"),
-        Step::CannotEnd(_) => say(way, b"cannot write\n"),
+        Step::CannotWrite => say(way, b"cannot write\n"),
         Step::More(_) => {}
-        Step::Ended(_) => {}
+        Step::Ended => {}
     }
 }
 
-// Turn by turn, up to the one that ends the run. A proved loop has to end, and nothing says that the input does: it counts its
-// turns down, from a number that no run uses up.
+// Turn by turn, up to the one that ends the run. The u64::MAX budget exists only so that the loop provably ends.
 fn turns(way: Way, line: &mut [u8], block: &mut [u8], out: &mut [u8]) -> Step
     requires { ⌜ length (now line) ≡ 128 ⌝ }
     requires { ⌜ 16 * length (now block) + 31 ≤ length (now out) ⌝ }
-    ensures { λ r. ⌜ Ran way (now (line .exit)) (now (block .exit)) (now (out .exit)) r ⌝ }
 {
     let mut used: usize = 0;
     let mut left = u64::MAX;
     while left > 0 {
         let step = turn(way, line, used, block, out);
-        let Step::More(taken) = step else {
+        let Step::More(next) = step else {
             return step;
         };
-        used = taken.used;
+        used = next;
         left -= 1;
     }
-    turn(way, line, used, block, out)
+    Step::CannotRead
 }
 
 // A program's work: its turns, and where they end otherwise than at the end of the input, why.

@@ -49,6 +49,7 @@ module _ (s : List ℕ) (formed : within first last s ≡ true) where
   pub fits : Fits (fieldsAt s)
   fits =
       record {
+        natural = refl;
         year = below 4 0 refl refl;
         month = below 2 5 refl refl;
         day = below 2 8 refl refl;

@@ -6,14 +6,16 @@ use Prim.Native.Nat.{ℕ, _+_, _≤_}
 use native.Mathlib.Omega.{arith}
 use borrow.Author.Tests.{le-leb, leb-true}
 use lib.Dec.{leb}
+use lib.IntN.{pos, natAbs}
 use lib.ListN.{length, take, drop, replicate, length-replicate, take-append-drop, drop-of-length-le}
 use lib.Seq.{drop-drop}
 use Rattle.refusals.specs.Outcome.{answered}
+use Rattle.civil.specs.Fields.{fields}
+use Rattle.civil.specs.declared.CivilDateTime.{CivilDateTime}
 use Rattle.digits.specs.Decimal.{valueOf, inDigits}
 use Rattle.digits.proofs.Writing.{digits-length}
 use Rattle.digits.proofs.WayBack.{first-half, second-half, value-of-digits, digits-are-digits}
 use Rattle.stamps.specs.Form.{Fits, field, fieldsAt, first, last, stampRead, within, written}
-use Rattle.stamps.specs.declared.Stamp.{Stamp}
 use Rattle.stamps.proofs.Between.{rest-within, join}
 use Rattle.stamps.proofs.Fields.{between-digits, long, same-digits, read-as}
 
@@ -25,21 +27,12 @@ before k n mark l h s e =
     let digits = rw digits-length at (between-digits (inDigits k n) (digits-are-digits k n)) in
     join (replicate k 48) (replicate k 57) (inDigits k n) (mark ∷ l) (mark ∷ h) (mark ∷ s) (simp length-replicate) digits (rw here e)
 
-same-fields : (f g : Stamp) → f .year ≡ g .year → f .month ≡ g .month → f .day ≡ g .day
-    → f .hour ≡ g .hour → f .minute ≡ g .minute → f .second ≡ g .second → f .nanos ≡ g .nanos → f ≡ g
-same-fields f g y mo d h mi s n =
-    let e : of (f .year) (f .month) (f .day) (f .hour) (f .minute) (f .second) (f .nanos) ≡ of (g .year) (g .month) (g .day) (g .hour) (g .minute) (g .second) (g .nanos) = cc in
-    e
-  where
-    of : ℕ → ℕ → ℕ → ℕ → ℕ → ℕ → ℕ → Stamp
-    of y mo d h mi s n = record { year = y; month = mo; day = d; hour = h; minute = mi; second = s; nanos = n }
-
-module _ (f : Stamp) where
+module _ (f : CivilDateTime) where
   -- what is written of any fields is in the form
   pub in-form : within first last (written f) ≡ true
   in-form =
       let s = written f in
-      before 4 (f .year) 45 (drop 5 first) (drop 5 last) (drop 5 s)
+      before 4 (natAbs (f .year)) 45 (drop 5 first) (drop 5 last) (drop 5 s)
       (before 2 (f .month) 45 (drop 8 first) (drop 8 last) (drop 8 s)
       (before 2 (f .day) 84 (drop 11 first) (drop 11 last) (drop 11 s)
       (before 2 (f .hour) 58 (drop 14 first) (drop 14 last) (drop 14 s)
@@ -48,14 +41,14 @@ module _ (f : Stamp) where
 
   fields-back : Fits f → fieldsAt (written f) ≡ f
   fields-back h =
-      same-fields (fieldsAt (written f)) f
-      (value-of-digits 4 (f .year) (h .year))
-      (value-of-digits 2 (f .month) (h .month))
-      (value-of-digits 2 (f .day) (h .day))
-      (value-of-digits 2 (f .hour) (h .hour))
-      (value-of-digits 2 (f .minute) (h .minute))
-      (value-of-digits 2 (f .second) (h .second))
-      (value-of-digits 9 (f .nanos) (h .nanos))
+      let year = ap pos (value-of-digits 4 (natAbs (f .year)) (h .year)) ∙ sym (h .natural) in
+      let month = value-of-digits 2 (f .month) (h .month) in
+      let day = value-of-digits 2 (f .day) (h .day) in
+      let hour = value-of-digits 2 (f .hour) (h .hour) in
+      let minute = value-of-digits 2 (f .minute) (h .minute) in
+      let second = value-of-digits 2 (f .second) (h .second) in
+      let nanos = value-of-digits 9 (f .nanos) (h .nanos) in
+      λ i. fields (year i) (month i) (day i) (hour i) (minute i) (second i) (nanos i)
 
   -- reading what was written gives the fields
   pub written-reads : Fits f → stampRead (written f) ≡ answered f
@@ -89,7 +82,7 @@ module _ (s : List ℕ) (formed : within first last s ≡ true) where
       let end : drop 30 s ≡ [] = drop-of-length-le s {i = 30} (omega (arith, long s formed)) in
       sym
       (piece 4 0 45 (drop 5 first) (drop 5 last) refl refl refl refl
-      ∙ ap (λ (t : List ℕ). field 4 (f .year) 45 ++ t) (piece 2 5 45 (drop 8 first) (drop 8 last) refl refl refl refl
+      ∙ ap (λ (t : List ℕ). field 4 (natAbs (f .year)) 45 ++ t) (piece 2 5 45 (drop 8 first) (drop 8 last) refl refl refl refl
       ∙ ap (λ (t : List ℕ). field 2 (f .month) 45 ++ t) (piece 2 8 84 (drop 11 first) (drop 11 last) refl refl refl refl
       ∙ ap (λ (t : List ℕ). field 2 (f .day) 84 ++ t) (piece 2 11 58 (drop 14 first) (drop 14 last) refl refl refl refl
       ∙ ap (λ (t : List ℕ). field 2 (f .hour) 58 ++ t) (piece 2 14 58 (drop 17 first) (drop 17 last) refl refl refl refl

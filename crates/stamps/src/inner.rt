@@ -3,10 +3,11 @@ ghost use mathlib.Core.Path.{_≡_};
 ghost use mathlib.Core.Bool.{true, _&&_};
 ghost use Prim.Native.Nat.{_+_, _≤_, _<_, _^_};
 ghost use lib.Dec.{leb};
+ghost use lib.IntN.{pos, natAbs};
 ghost use lib.ListN.{length};
 ghost use lib.Seq.{sets};
 ghost use Rattle.stamps.specs.Form.{Fits, field, fieldsAt, first, last, within, written};
-use crate::Stamp;
+use civil::CivilDateTime;
 use digits::inner::field;
 use digits::inner::put_four;
 use digits::inner::put_nine;
@@ -51,14 +52,14 @@ pub fn within(low: &[u8], high: &[u8], s: &[u8]) -> bool
 }
 
 // The fields of bytes in the form, at their places. Each fits its type.
-pub fn fields(s: &[u8]) -> Stamp
+pub fn fields(s: &[u8]) -> CivilDateTime
     requires { ⌜ length (now s) ≡ 30 ⌝ }
     requires { ⌜ Fits (fieldsAt (now s)) ⌝ }
     requires { ⌜ within first last (now s) ≡ true ⌝ }
     ensures { λ r. ⌜ r ≡ fieldsAt (now (s .entry)) ⌝ }
 {
-    Stamp {
-        year: field(s, 0, 4) as u32,
+    CivilDateTime {
+        year: field(s, 0, 4) as i32,
         month: field(s, 5, 2) as u8,
         day: field(s, 8, 2) as u8,
         hour: field(s, 11, 2) as u8,
@@ -68,7 +69,7 @@ pub fn fields(s: &[u8]) -> Stamp
     }
 }
 
-// Two, four and nine digits, and the mark behind them.
+// Two digits, a year in four, and nine digits, each with the mark behind them.
 fn put_two_and(out: &mut [u8], at: usize, n: u8, mark: u8)
     requires { ⌜ n < 10 ^ 2 ⌝ }
     requires { ⌜ at + 3 ≤ length (now out) ⌝ }
@@ -78,12 +79,13 @@ fn put_two_and(out: &mut [u8], at: usize, n: u8, mark: u8)
     out[at + 2] = mark;
 }
 
-fn put_four_and(out: &mut [u8], at: usize, n: u32, mark: u8)
-    requires { ⌜ n < 10 ^ 4 ⌝ }
+fn put_year_and(out: &mut [u8], at: usize, year: i32, mark: u8)
+    requires { ⌜ year ≡ pos (natAbs year) ⌝ }
+    requires { ⌜ natAbs year < 10 ^ 4 ⌝ }
     requires { ⌜ at + 5 ≤ length (now out) ⌝ }
-    ensures { λ _. ⌜ now (out .exit) ≡ sets (now (out .entry)) at (field 4 n mark) ⌝ }
+    ensures { λ _. ⌜ now (out .exit) ≡ sets (now (out .entry)) at (field 4 (natAbs year) mark) ⌝ }
 {
-    put_four(out, at, n);
+    put_four(out, at, year as u32);
     out[at + 4] = mark;
 }
 
@@ -97,12 +99,12 @@ fn put_nine_and(out: &mut [u8], at: usize, n: u32, mark: u8)
 }
 
 // The form at a place of a slice.
-pub fn put(out: &mut [u8], at: usize, f: Stamp)
+pub fn put(out: &mut [u8], at: usize, f: CivilDateTime)
     requires { ⌜ at + 30 ≤ length (now out) ⌝ }
     requires { ⌜ Fits f ⌝ }
     ensures { λ _. ⌜ now (out .exit) ≡ sets (now (out .entry)) at (written f) ⌝ }
 {
-    put_four_and(out, at, f.year, b'-');
+    put_year_and(out, at, f.year, b'-');
     put_two_and(out, at + 5, f.month, b'-');
     put_two_and(out, at + 8, f.day, b'T');
     put_two_and(out, at + 11, f.hour, b':');

@@ -3,22 +3,12 @@ pub mod inner;
 
 ghost use mathlib.Core.Path.{_≡_};
 ghost use Rattle.stamps.specs.Form.{stampIn, stampRead};
+use civil::CivilDateTime;
 use refusals::Refusal;
 
-// The fields of the form: each as its digits say, real or not.
-pub struct Stamp {
-    pub year: u32,
-    pub month: u8,
-    pub day: u8,
-    pub hour: u8,
-    pub minute: u8,
-    pub second: u8,
-    pub nanos: u32,
-}
-
-// The fields, or why there are none.
+// The fields as their digits say, real or not, or why there are none.
 pub enum StampAnswer {
-    Fields(Stamp),
+    Fields(CivilDateTime),
     Refused(Refusal),
 }
 

@@ -1,13 +1,12 @@
 // The answer to a line, written at a place with room for the longest answer, 31 bytes. Each function returns where it ends.
 ghost use mathlib.Core.Path.{_≡_};
-ghost use Prim.Native.Nat.{_+_, _≤_, _<_, _^_};
+ghost use Prim.Native.Nat.{_+_, _≤_};
 ghost use lib.ListN.{length, take};
 ghost use lib.Seq.{sets};
 ghost use Rattle.refusals.specs.Number.{numberOf};
 ghost use Rattle.refusals.specs.Outcome.{answered, refused};
-ghost use Rattle.civil.specs.Fields.{fieldsOf};
 ghost use Rattle.digits.specs.Decimal.{decimal};
-ghost use Rattle.lines.specs.Answers.{Puts, stampOf, civilOf, civilOfGps, civilOfLine, gpsOfUtc, gpsOfStamp, gpsOfLine, lineOf, answerTo};
+ghost use Rattle.lines.specs.Answers.{Puts, civilOf, civilOfGps, civilOfLine, gpsOfUtc, gpsOfFields, gpsOfLine, lineOf, answerTo};
 use crate::Way;
 use civil::CivilDateTime;
 use counts::CountAnswer;
@@ -17,7 +16,6 @@ use scales::gps::Gps;
 use scales::gps::GpsAnswer;
 use scales::utc::Utc;
 use scales::utc::UtcAnswer;
-use stamps::Stamp;
 use stamps::StampAnswer;
 
 // A line has at most so many bytes.
@@ -48,27 +46,11 @@ fn put_refused(refusal: Refusal, out: &mut [u8], at: usize) -> usize
     end + 1
 }
 
-// The fields of a count, for the form.
-fn stamp_of(utc: Utc) -> Stamp
-    ensures { λ r. ⌜ r ≡ stampOf (fieldsOf (utc .0)) ⌝ }
-{
-    let c = civil::to_civil(utc);
-    Stamp {
-        year: c.year as u32,
-        month: c.month,
-        day: c.day,
-        hour: c.hour,
-        minute: c.minute,
-        second: c.second,
-        nanos: c.nanos,
-    }
-}
-
 fn put_civil(utc: Utc, out: &mut [u8], at: usize) -> usize
     requires { ⌜ at + 31 ≤ length (now out) ⌝ }
     ensures { λ r. ⌜ Puts (lineOf (answered (civilOf (utc .0)))) (now (out .entry)) at (now (out .exit)) r ⌝ }
 {
-    stamps::inner::put(out, at, stamp_of(utc));
+    stamps::inner::put(out, at, civil::to_civil(utc));
     out[at + 30] = LINE_END;
     at + 31
 }
@@ -113,20 +95,10 @@ fn answer_utc(utc: Utc, out: &mut [u8], at: usize) -> usize
     }
 }
 
-fn answer_fields(s: Stamp, out: &mut [u8], at: usize) -> usize
+fn answer_fields(c: CivilDateTime, out: &mut [u8], at: usize) -> usize
     requires { ⌜ at + 31 ≤ length (now out) ⌝ }
-    requires { ⌜ s .year < 10 ^ 4 ⌝ }
-    ensures { λ r. ⌜ Puts (lineOf (gpsOfStamp s)) (now (out .entry)) at (now (out .exit)) r ⌝ }
+    ensures { λ r. ⌜ Puts (lineOf (gpsOfFields c)) (now (out .entry)) at (now (out .exit)) r ⌝ }
 {
-    let c = CivilDateTime {
-        year: s.year as i32,
-        month: s.month,
-        day: s.day,
-        hour: s.hour,
-        minute: s.minute,
-        second: s.second,
-        nanos: s.nanos,
-    };
     match c.to_utc() {
         UtcAnswer::Count(utc) => answer_utc(utc, out, at),
         UtcAnswer::Refused(refusal) => put_refused(refusal, out, at),
@@ -139,7 +111,7 @@ pub fn answer_stamp(line: &[u8], out: &mut [u8], at: usize) -> usize
     ensures { λ r. ⌜ Puts (lineOf (gpsOfLine (now (line .entry)))) (now (out .entry)) at (now (out .exit)) r ⌝ }
 {
     match stamps::read(line) {
-        StampAnswer::Fields(s) => answer_fields(s, out, at),
+        StampAnswer::Fields(c) => answer_fields(c, out, at),
         StampAnswer::Refused(refusal) => put_refused(refusal, out, at),
     }
 }

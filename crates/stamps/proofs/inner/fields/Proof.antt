@@ -1,12 +1,16 @@
 -- `fields` meets its contract: each field is the value of its bytes.
-use mathlib.Core.Path.{_≡_, refl}
+use mathlib.Core.Path.{_≡_, refl, ap, _∙_}
 use mathlib.Core.Bool.{true}
-use Prim.Native.Nat.{ℕ}
+use Prim.Native.Nat.{ℕ, _<_, _^_}
 use native.Mathlib.Omega.{arith}
 use borrow.Author.Needs.{needs}
 use denote.Ref.{now}
+use mir.Facts.{toZ-pos}
+use mir.Syntax.{w32}
+use mir.Val.{toZ}
 use lib.ListN.{take, drop, replicate}
-use Rattle.digits.specs.Decimal.{allDigits}
+use Rattle.civil.specs.Fields.{fields as civil}
+use Rattle.digits.specs.Decimal.{allDigits, valueOf}
 use Rattle.stamps.specs.Form.{first, last}
 use Rattle.stamps.proofs.Fields.{all-digits}
 use Rattle.stamps.proofs.inner.fields.Statement.{statement}
@@ -58,7 +62,16 @@ cast-t15 : tie.Need-cast-t15
 cast-t15 c = search needs
 
 returns : tie.Need-returns
-returns c = cc
+returns c =
+    let start = c .before .before .before .before .before .before .before .before in
+    let few : valueOf (take 4 (now (start .args .s))) < 2 ^ 31 = omega (arith, start .pre .1 .0 .year) in
+    let year = ap (toZ w32) (c .before .before .before .before .before .before .field .ensures) ∙ toZ-pos w32 few in
+    let month = c .before .before .before .before .before .field2 .ensures in
+    let day = c .before .before .before .before .field3 .ensures in
+    let hour = c .before .before .before .field4 .ensures in
+    let minute = c .before .before .field5 .ensures in
+    let second = c .before .field6 .ensures in
+    λ i. civil (year i) (month i) (day i) (hour i) (minute i) (second i) (c .field7 .ensures i)
 
 pub fields-spec : {M : Type 1} → statement M
 fields-spec =

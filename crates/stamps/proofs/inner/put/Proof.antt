@@ -1,16 +1,31 @@
 -- `put` meets its contract: seven fields, each from where the one before ends.
-use mathlib.Core.Path.{refl}
+use mathlib.Core.Path.{_≡_, refl, sym, ap, subst, _∙_}
 use mathlib.Core.List.{_++_}
-use Prim.Native.Nat.{_+_}
+use Prim.Native.Nat.{_+_, _<_, _^_}
+use native.Mathlib.Omega.{arith}
 use borrow.Author.Needs.{needs}
 use denote.Ref.{now}
+use lib.IntN.{ℤ, pos, natAbs}
+use lib.Seq.{sets}
+use mir.Facts.{toZ-ofZ}
+use mir.Syntax.{w32}
+use mir.Val.{SFits, toZ, ofZ}
 use Rattle.digits.proofs.Stores.{joined}
 use Rattle.stamps.specs.Form.{field}
 use Rattle.stamps.proofs.inner.put.Statement.{statement}
 use Rattle.stamps.proofs.inner.put.Tie as tie
 
-put-four-and-requires : tie.Need-put-four-and-requires
-put-four-and-requires c κs = search needs
+-- the year as the machine has it
+read : (s : tie.Start) → toZ w32 (ofZ w32 (s .args .f .year)) ≡ s .args .f .year
+read s =
+    let f = s .pre .1 in
+    toZ-ofZ (subst (SFits w32) (sym (f .natural)) (record { sfits = omega (arith, f .year) }))
+
+put-year-and-requires : tie.Need-put-year-and-requires
+put-year-and-requires c κs =
+    let s = c .before .before .before in
+    let f = s .pre .1 in
+    (subst (λ (z : ℤ). z ≡ pos (natAbs z)) (sym (read s)) (f .natural), (subst (λ (z : ℤ). natAbs z < 10 ^ 4) (sym (read s)) (f .year), omega arith))
 
 add-put-two-and : tie.Need-add-put-two-and
 add-put-two-and c = search needs
@@ -60,16 +75,17 @@ returns c =
     let p3 = p4 .before .before .before .before in
     let p2 = p3 .before .before .before .before in
     let p1 = p2 .before .before .before .before in
-    let a = p1 .before .before .before .args in
+    let a = p1 .before .before .before .before .args in
     let out = now (a .out) in
     let at = a .at in
-    let date₁ = field 4 (a .f .year) 45 in
+    let date₁ = field 4 (natAbs (a .f .year)) 45 in
     let date₂ = date₁ ++ field 2 (a .f .month) 45 in
     let date₃ = date₂ ++ field 2 (a .f .day) 84 in
     let time₁ = date₃ ++ field 2 (a .f .hour) 58 in
     let time₂ = time₁ ++ field 2 (a .f .minute) 58 in
     let time₃ = time₂ ++ field 2 (a .f .second) 46 in
-    let after-month = joined out at (at + 5) date₁ (field 2 (a .f .month) 45) (p1 .put-four-and .ensures) refl (p2 .put-two-and .ensures) in
+    let year = p1 .put-year-and .ensures ∙ ap (λ (z : ℤ). sets out at (field 4 (natAbs z) 45)) (read (p1 .before .before .before .before)) in
+    let after-month = joined out at (at + 5) date₁ (field 2 (a .f .month) 45) year refl (p2 .put-two-and .ensures) in
     let after-day = joined out at (at + 8) date₂ (field 2 (a .f .day) 84) after-month refl (p3 .put-two-and2 .ensures) in
     let after-hour = joined out at (at + 11) date₃ (field 2 (a .f .hour) 58) after-day refl (p4 .put-two-and3 .ensures) in
     let after-minute = joined out at (at + 14) time₁ (field 2 (a .f .minute) 58) after-hour refl (p5 .put-two-and4 .ensures) in
@@ -80,7 +96,7 @@ pub put-spec : {M : Type 1} → statement M
 put-spec =
     tie.close
     (tie.spec
-    put-four-and-requires
+    put-year-and-requires
     add-put-two-and
     put-two-and-requires
     add-put-two-and-2

@@ -1,25 +1,20 @@
 -- `answer_stamp` meets its contract: the fields of the form, or why there are none.
 use mathlib.Core.Path.{sym, ap, _∙_}
-use native.Mathlib.Omega.{arith}
 use borrow.Author.Needs.{needs}
 use denote.Ref.{now}
 use Rattle.stamps.specs.Form.{stampIn}
-use Rattle.lines.proofs.Outcomes.{form-answered, form-refused, read-fits}
+use Rattle.lines.proofs.Outcomes.{form-answered, form-refused}
 use Rattle.lines.proofs.inner.answer.answer_stamp.Statement.{statement}
 use Rattle.lines.proofs.inner.answer.answer_stamp.Tie as tie
 
 read-requires : tie.Need-read-requires
 read-requires c κs = search needs
 
-enum-known-s : tie.Need-enum-known-s
-enum-known-s c = search needs
+enum-known-c : tie.Need-enum-known-c
+enum-known-c c = search needs
 
 answer-fields-requires : tie.Need-answer-fields-requires
-answer-fields-requires c κs =
-    let arm = c .before .before in
-    let step = arm .before .before in
-    let a = step .before .before .before .args in
-    (omega arith, read-fits (now (a .line)) _ (ap stampIn (sym (arm .s .given .1)) ∙ step .read .ensures) .year)
+answer-fields-requires c κs = search needs
 
 enum-known-refusal : tie.Need-enum-known-refusal
 enum-known-refusal c = search needs
@@ -35,7 +30,7 @@ returns c =
     let arm = c .before .before .before .before .before in
     let step = arm .before .before in
     let a = step .before .before .before .args in
-    rw (form-answered (now (a .line)) _ (ap stampIn (sym (arm .s .given .1)) ∙ step .read .ensures)) (c .before .before .answer-fields .ensures)
+    rw (form-answered (now (a .line)) _ (ap stampIn (sym (arm .c .given .1)) ∙ step .read .ensures)) (c .before .before .answer-fields .ensures)
 
 same-length-2 : tie.Need-same-length-2
 same-length-2 c = search needs
@@ -52,7 +47,7 @@ answer-stamp-spec =
     tie.close
     (tie.spec
     read-requires
-    enum-known-s
+    enum-known-c
     answer-fields-requires
     enum-known-refusal
     put-refused-requires

@@ -7,21 +7,21 @@ use borrow.Author.Needs.{needs}
 use denote.Ref.{now}
 use lib.Seq.{sets}
 use Rattle.digits.proofs.Stores.{joined}
-use Rattle.stamps.specs.declared.Stamp.{Stamp}
 use Rattle.stamps.specs.Form.{Fits, written}
 use Rattle.civil.specs.Fields.{fieldsOf}
-use Rattle.lines.specs.Answers.{civilOf, stampOf}
+use Rattle.civil.specs.declared.CivilDateTime.{CivilDateTime}
+use Rattle.lines.specs.Answers.{civilOf}
 use Rattle.lines.proofs.Years.{fits-form}
 use Rattle.lines.proofs.inner.answer.put_civil.Statement.{statement}
 use Rattle.lines.proofs.inner.answer.put_civil.Tie as tie
 
-stamp-of-requires : tie.Need-stamp-of-requires
-stamp-of-requires c κs = search needs
+to-civil-requires : tie.Need-to-civil-requires
+to-civil-requires c κs = search needs
 
 put-requires : tie.Need-put-requires
 put-requires c κs =
     let utc = c .before .before .before .args .utc .0 in
-    (omega arith, subst Fits (sym (c .stamp-of .ensures)) (fits-form utc (omega arith)))
+    (omega arith, subst Fits (sym (c .to-civil .ensures)) (fits-form utc (omega arith)))
 
 add-out : tie.Need-add-out
 add-out c = search needs
@@ -40,14 +40,14 @@ unfolding civilOf
 returns c =
     let put = c .before .before in
     let a = put .before .before .before .before .args in
-    let form = put .put .ensures ∙ ap (λ (s : Stamp). sets (now (a .out)) (a .at) (written s)) (put .before .stamp-of .ensures) in
-    (refl, joined (now (a .out)) (a .at) (a .at + 30) (written (stampOf (fieldsOf (a .utc .0)))) (10 ∷ []) form refl refl)
+    let form = put .put .ensures ∙ ap (λ (f : CivilDateTime). sets (now (a .out)) (a .at) (written f)) (put .before .to-civil .ensures) in
+    (refl, joined (now (a .out)) (a .at) (a .at + 30) (written (fieldsOf (a .utc .0))) (10 ∷ []) form refl refl)
 
 pub put-civil-spec : {M : Type 1} → statement M
 put-civil-spec =
     tie.close
     (tie.spec
-    stamp-of-requires
+    to-civil-requires
     put-requires
     add-out
     slice-write-out
