@@ -1,4 +1,4 @@
--- The lines of an input, and what is written for them.
+-- The lines of an input, and what is written for them: proofs/WholeInput.antt says that this is what the programs' blocks write.
 use Prim.Native.Nat.{ℕ}
 use mathlib.Core.Bool.{cond}
 use mathlib.Core.List.{List, [], _∷_, _++_}

@@ -18,6 +18,7 @@ use libc::EINTR;
 use libc::STDERR_FILENO;
 use libc::STDIN_FILENO;
 use libc::STDOUT_FILENO;
+use libc::types::timespec;
 
 // Zeros for a block.
 pub fn block_buffer() -> [u8; 65536]
@@ -36,9 +37,19 @@ pub fn answer_buffer() -> [u8; 1048607]
 // The bytes of a block, in and out: 64 KiB.
 const BLOCK: usize = 65536;
 
-// Lets others run for a while.
+// A pause, before a call that found nothing to do is made again: a millisecond.
+const PAUSE_NANOS: i64 = 1_000_000;
+
 fn pause() {
-    libc::sched_yield();
+    let asked = timespec {
+        tv_sec: 0,
+        tv_nsec: PAUSE_NANOS,
+    };
+    let mut left = timespec {
+        tv_sec: 0,
+        tv_nsec: 0,
+    };
+    libc::nanosleep(&asked, &mut left);
 }
 
 // Whether a read or a write that answered `got` moved nothing and never will. One that was interrupted is made again, and
