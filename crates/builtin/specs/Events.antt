@@ -11,7 +11,8 @@ use Rattle.calendar.specs.Calendar.{Date}
 use Rattle.calendar.specs.Formula.{dayOf}
 use Rattle.calendar.specs.Epochs.{epochOf}
 use Rattle.calendar.specs.declared.epochs.Epoch.the-variants as epoch
-use Rattle.civil.specs.Fields.{Fields, countAt}
+use Rattle.civil.specs.Fields.{fields, countAt}
+use Rattle.civil.specs.declared.CivilDateTime.{CivilDateTime}
 use Rattle.tables.specs.Entries.{Entry, entry}
 use Rattle.conversions.specs.Conversions.{then}
 use Rattle.builtin.specs.Builtin.{events, thresholdOf}
@@ -24,8 +25,8 @@ abbrev pub eventIn : EventAnswer → Outcome Entry
 eventIn (event.Entry e) = answered e
 eventIn (event.Refused r) = refused (numberOf r)
 
-abbrev pub midnight : Date → Fields
-midnight d = record { date = d; hour = 0; minute = 0; second = 0; nanos = 0 }
+abbrev pub midnight : Date → CivilDateTime
+midnight d = fields (d .year) (d .month) (d .day) 0 0 0 0
 
 -- the threshold of an event: 1 where its midnight has no UTC count, and where the threshold is no count
 abbrev pub eventThreshold : Date → ℤ → Outcome ℕ

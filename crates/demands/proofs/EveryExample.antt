@@ -6,7 +6,8 @@ use Rattle.calendar.specs.Calendar.{Date, on, dateOf, daysIn}
 use Rattle.calendar.specs.Formula.{formula, era, yoe, doy, doe}
 use Rattle.calendar.proofs.RealDates.{real}
 use Rattle.calendar.proofs.CalendarTheorems.{date-of-day}
-use Rattle.civil.specs.Fields.{Fields}
+use Rattle.civil.specs.Fields.{fields}
+use Rattle.civil.specs.declared.CivilDateTime.{CivilDateTime}
 use Rattle.tables.specs.Entries.{neighbours, lastUpTo, offsetAt, lastOr, joinRefusal}
 use Rattle.tables.specs.Slots.{paired}
 use Rattle.builtin.specs.Builtin.{builtin, events, thresholdOf, entriesFrom}
@@ -17,8 +18,8 @@ unfolding formula era yoe doy doe daysIn
 last-day = date-of-day (on (pos 2556) 7 20) (real (on (pos 2556) 7 20) tt)
 
 -- the fields at a time of day
-abbrev pub at : ℕ → ℕ → ℕ → ℕ → Date → Fields
-at h m s n d = record { date = d; hour = h; minute = m; second = s; nanos = n }
+abbrev pub at : ℕ → ℕ → ℕ → ℕ → Date → CivilDateTime
+at h m s n d = fields (d .year) (d .month) (d .day) h m s n
 
 pub every-example : (week : ℕ) → Every (examples week)
 unfolding builtin events thresholdOf entriesFrom formula era yoe doy doe neighbours lastUpTo offsetAt lastOr joinRefusal paired

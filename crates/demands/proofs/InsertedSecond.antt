@@ -10,11 +10,11 @@ use Rattle.calendar.specs.Calendar.{on, dateOf, daysIn}
 use Rattle.calendar.specs.Formula.{formula, era, yoe, doy, doe}
 use Rattle.calendar.proofs.RealDates.{real}
 use Rattle.calendar.proofs.CalendarTheorems.{date-of-day}
-use Rattle.civil.specs.Fields.{fieldsOf}
+use Rattle.civil.specs.Fields.{fields, fieldsOf}
 use Rattle.tables.specs.Entries.{Entry, entry, lastUpTo, offsetAt}
 use Rattle.conversions.specs.Conversions.{gpsToUtc, utcToGps}
 use Rattle.builtin.specs.Builtin.{builtin, events, thresholdOf, entriesFrom}
-use Rattle.demands.specs.Examples.{Example, _is_, Every, _also_, none-left, civil}
+use Rattle.demands.specs.Examples.{Example, _is_, Every, _also_, none-left}
 use Rattle.demands.proofs.EveryExample.{at}
 
 -- the inserted second and the one after it have one UTC count, and the way back answers the inserted one
@@ -27,7 +27,7 @@ endOf2016 =
     utcToGps builtin (1_420_156_799 * second) is answered (1_167_264_016 * second) ∷
     utcToGps builtin (1_420_156_800 * second) is answered (1_167_264_017 * second) ∷
     utcToGps builtin (1_420_156_801 * second) is answered (1_167_264_019 * second) ∷
-    fieldsOf (1_420_156_800 * second) is civil 2017 1 1 0 0 0 0 ∷
+    fieldsOf (1_420_156_800 * second) is fields (pos 2017) 1 1 0 0 0 0 ∷
     []
 
 -- two thresholds a second apart

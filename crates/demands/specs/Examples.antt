@@ -6,8 +6,7 @@ use Prim.Native.Nat.{ℕ, _+_, _*_}
 use lib.IntN.{pos}
 use Rattle.refusals.specs.Outcome.{answered, refused}
 use Rattle.counts.specs.Units.{second, weekSeconds, ofUnits}
-use Rattle.calendar.specs.Calendar.{on}
-use Rattle.civil.specs.Fields.{Fields, fieldsOf, countAt}
+use Rattle.civil.specs.Fields.{fields, fieldsOf, countAt}
 use Rattle.tables.specs.Entries.{Entry, entry, regular}
 use Rattle.tables.specs.Slots.{tableOf, extended}
 use Rattle.conversions.specs.Conversions.{gpsToUtc, utcToGps, glonassToUtc, glonassToGps}
@@ -31,10 +30,6 @@ pub data Every : List Example → Type 1 where
 abbrev pub builtinWith : Entry → ℕ × ℕ
 builtinWith e = let (number, table) = extended (tableOf builtin) e in (number, table .len)
 
--- a date and a time of day
-abbrev pub civil : ℕ → ℕ → ℕ → ℕ → ℕ → ℕ → ℕ → Fields
-civil y m d h i s n = record { date = on (pos y) m d; hour = h; minute = i; second = s; nanos = n }
-
 -- with any week
 abbrev pub examples : ℕ → List Example
 examples week =
@@ -55,8 +50,8 @@ examples week =
     builtinWith (entry 1_167_264_037_000_000_000 (pos 38)) is (3, 19) ∷
     builtinWith (entry 1_167_264_037_000_000_001 (pos 39)) is (4, 19) ∷
     builtinWith (entry 1_167_264_037_000_000_001 (pos 38)) is (0, 20) ∷
-    fieldsOf 18_446_744_073_709_551_615 is civil 2556 7 20 23 34 33 709_551_615 ∷
-    countAt (civil 1972 1 1 255 0 0 0) is answered (918_000 * second) ∷
+    fieldsOf 18_446_744_073_709_551_615 is fields (pos 2556) 7 20 23 34 33 709_551_615 ∷
+    countAt (fields (pos 1972) 1 1 255 0 0 0) is answered (918_000 * second) ∷
     ofUnits weekSeconds 30_500 344_073 709_551_615 is answered 18_446_744_073_709_551_615 ∷
     ofUnits weekSeconds 30_500 344_073 709_551_616 is refused 1 ∷
     ofUnits weekSeconds week 604_800 0 is refused 2 ∷

@@ -1,3 +1,2 @@
-pub mod Civil
 pub mod Limits
 pub mod Tables

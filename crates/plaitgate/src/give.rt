@@ -6,9 +6,8 @@ ghost use Rattle.counts.specs.Answers.{countIn, durationIn, partsIn};
 ghost use Rattle.counts.specs.Units.{partsOf};
 ghost use Rattle.scales.specs.Answers.{gpsIn, utcIn, glonassIn, taiIn};
 ghost use Rattle.calendar.specs.Answers.{spanIn};
-ghost use Rattle.civil.specs.Fields.{fieldsIn};
+ghost use Rattle.civil.specs.Fields.{fields};
 ghost use Rattle.conversions.specs.Answers.{unixIn};
-ghost use Rattle.plaitgate.specs.Civil.{fields};
 ghost use Rattle.tables.specs.Answers.{takenIn, lengthIn, emptyIn, entryIn, updateIn, offsetIn};
 ghost use Rattle.tables.specs.Entries.{entry, threshold};
 ghost use Rattle.builtin.specs.Events.{eventIn};
@@ -180,7 +179,7 @@ pub fn civil(
     second: &mut u8,
     nanos: &mut u32,
 )
-    ensures { λ _. ⌜ fields (now (year .exit)) (now (month .exit)) (now (day .exit)) (now (hour .exit)) (now (minute .exit)) (now (second .exit)) (now (nanos .exit)) ≡ fieldsIn c ⌝ }
+    ensures { λ _. ⌜ fields (now (year .exit)) (now (month .exit)) (now (day .exit)) (now (hour .exit)) (now (minute .exit)) (now (second .exit)) (now (nanos .exit)) ≡ c ⌝ }
 {
     let c_year = c.year;
     *year = c_year;

@@ -3,9 +3,8 @@ use lib.IntN.{pos}
 use denote.Ref.{now}
 use Rattle.calendar.specs.Calendar.{on}
 use Rattle.calendar.specs.Dates.{daysFromUnix, daysUntil, secondsUntil, nanosUntil}
-use Rattle.civil.specs.Fields.{countAt}
+use Rattle.civil.specs.Fields.{fields, countAt}
 use Rattle.builtin.specs.Events.{eventThreshold}
-use Rattle.plaitgate.specs.Civil.{fields}
 use Rattle.plaitgate.proofs.civil_dates
 use Rattle.plaitgate.proofs.civil_times
 use Rattle.plaitgate.proofs.leap_events

@@ -1,7 +1,7 @@
 -- Each call on civil dates and times leaves one refusal number, and one value behind each reference that it writes, for each input.
 use denote.Ref.{now}
 use Rattle.refusals.proofs.OneAnswer.{OneAnswerAndEnd, both}
-use Rattle.plaitgate.specs.Civil.{fields}
+use Rattle.civil.specs.Fields.{fields}
 use Rattle.plaitgate.proofs.civil_times.plaitgate_civil_from_utc_nanos.Reads as civil-from-utc-nanos-contract
 use Rattle.plaitgate.proofs.civil_times.plaitgate_utc_to_civil.Reads as utc-to-civil-contract
 use Rattle.plaitgate.proofs.civil_times.plaitgate_civil_to_utc_nanos.Reads as civil-to-utc-nanos-contract

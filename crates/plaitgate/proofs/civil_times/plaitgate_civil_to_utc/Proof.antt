@@ -2,8 +2,7 @@
 use mathlib.Core.Path.{ap, _∙_}
 use borrow.Author.Needs.{needs}
 use lib.IntN.{ℤ}
-use Rattle.civil.specs.Fields.{countAt}
-use Rattle.plaitgate.specs.Civil.{fields}
+use Rattle.civil.specs.Fields.{fields, countAt}
 use mir.Facts.{toZ-ofZ}
 use Rattle.refusals.proofs.Given.{gives-same}
 use Rattle.plaitgate.proofs.civil_times.plaitgate_civil_to_utc.Statement.{statement}
