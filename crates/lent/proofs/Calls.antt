@@ -12,7 +12,7 @@ use Rattle.tables.specs.declared.LeapTable.{LeapTable}
 use Rattle.tables.proofs.Tells.{taken-tells, extension-tells, length-tells, empty-tells, update-tells, offset-tells}
 use Rattle.lent.specs.Lists.{ofValidList}
 use Rattle.lent.specs.Copied.{ListAnswers, answersIn}
-use Rattle.lent.specs.declared.copied.Answers.{Answers}
+use Rattle.lent.specs.declared.inner.copied.Answers.{Answers}
 use Rattle.lent.proofs.Stated.{LeavesOne, LeavesOneAndEnd}
 use Rattle.lent.proofs.try_from_slice as try-from-slice-call
 use Rattle.lent.proofs.tai_minus_utc_at as tai-minus-utc-at-call
@@ -21,8 +21,8 @@ use Rattle.lent.proofs.is_empty as is-empty-call
 use Rattle.lent.proofs.last_update as last-update-call
 use Rattle.lent.proofs.current_tai_minus_utc as current-tai-minus-utc-call
 use Rattle.lent.proofs.try_extend as try-extend-call
-use Rattle.lent.proofs.copied.extended_in_place.Reads as extended-in-place-contract
-use Rattle.lent.proofs.copied.answers_of_first.Reads as answers-of-first-contract
+use Rattle.lent.proofs.inner.copied.extended_in_place.Reads as extended-in-place-contract
+use Rattle.lent.proofs.inner.copied.answers_of_first.Reads as answers-of-first-contract
 
 pub try-from-slice : LeavesOne try-from-slice-call.ended (λ M 𝓤 H. try-from-slice-call.clauses 𝓤 H)
 try-from-slice = record {

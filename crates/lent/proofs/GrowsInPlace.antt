@@ -3,7 +3,7 @@ use contract.Monad.{fact-mono}
 use Rattle.tables.proofs.Extensions.{Extends, extends}
 use Rattle.lent.proofs.Stated.{Implies}
 use Rattle.lent.proofs.try_extend as try-extend-call
-use Rattle.lent.proofs.copied.extended_in_place.Reads as extended-in-place-contract
+use Rattle.lent.proofs.inner.copied.extended_in_place.Reads as extended-in-place-contract
 
 -- `lent::try_extend`, of the table before and afterwards
 pub try-extend : Implies try-extend-call.ended (λ M 𝓤 H. try-extend-call.clauses 𝓤 H)

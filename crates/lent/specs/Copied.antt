@@ -1,4 +1,4 @@
--- What every call answers for one list.
+-- What every call answers for one list. Only contracts of functions in `inner` cite it.
 use mathlib.Core.Bool.{Bool}
 use mathlib.Core.List.{List}
 use mathlib.Core.Option.{Option}
@@ -10,7 +10,7 @@ use Rattle.refusals.specs.Outcome.{Outcome, answered}
 use Rattle.tables.specs.Answers.{takenIn, lengthIn, emptyIn, updateIn, offsetIn}
 use Rattle.tables.specs.Entries.{Entry, checking, offsetAt, currentOffset, lastUpdate}
 use Rattle.lent.specs.Lists.{ofValidList}
-use Rattle.lent.specs.declared.copied.Answers.{Answers}
+use Rattle.lent.specs.declared.inner.copied.Answers.{Answers}
 
 pub record ListAnswers : Type 0 where
   pub check : ℕ

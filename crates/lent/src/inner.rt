@@ -1,4 +1,6 @@
 // One pass over a lent list of entries, which every call on such a list makes, and what each reads off what was seen.
+pub mod copied;
+
 ghost use mathlib.Core.Path.{_≡_};
 ghost use Prim.Native.Nat.{_+_, _<_, _^_};
 ghost use lib.Dec.{eqb};

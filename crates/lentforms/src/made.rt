@@ -1,5 +1,5 @@
 // Lists and tables made for the run.
-use lent::copied::extended_in_place;
+use lent::inner::copied::extended_in_place;
 use tables::LeapEntry;
 use tables::LeapTable;
 

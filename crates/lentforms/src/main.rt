@@ -3,8 +3,8 @@ mod made;
 mod say;
 
 use builtin::from_builtin;
-use lent::copied::answers_of_first;
-use lent::copied::extended_in_place;
+use lent::inner::copied::answers_of_first;
+use lent::inner::copied::extended_in_place;
 use scales::tai::Tai;
 use tables::LeapEntry;
 use tables::LeapTable;

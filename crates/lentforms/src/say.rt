@@ -2,7 +2,7 @@
 use counts::Duration;
 use counts::sums::Step;
 use counts::sums::by_sign;
-use lent::copied::Answers;
+use lent::inner::copied::Answers;
 use libc::STDOUT_FILENO;
 use refusals::Refusal;
 use tables::EmptyAnswer;

@@ -28,9 +28,9 @@ use Rattle.tables.proofs.OffsetAnswer as O
 use Rattle.tables.proofs.OffsetAnswer.Laws as O′
 use Rattle.lent.specs.Lists.{ofValidList}
 use Rattle.lent.specs.Copied.{answersIn, answersOf}
-use Rattle.lent.specs.declared.copied.Answers.{Answers}
-use Rattle.lent.proofs.copied.Answers as S
-use Rattle.lent.proofs.copied.Answers.Laws as S′
+use Rattle.lent.specs.declared.inner.copied.Answers.{Answers}
+use Rattle.lent.proofs.inner.copied.Answers as S
+use Rattle.lent.proofs.inner.copied.Answers.Laws as S′
 
 abbrev pub Checks : List Entry → Taken → Type 0
 Checks ys r = takenIn r ≡ checking ys

@@ -1,4 +1,4 @@
--- `copied::lent_to_all`: of a local array the first n entries are lent for a lifetime that is made here, to each call in turn, and are back as they were.
+-- `inner::copied::lent_to_all`: of a local array the first n entries are lent for a lifetime that is made here, to each call in turn, and are back as they were.
 use mathlib.Core.Path.{_≡_, refl, sym, subst}
 use Prim.Native.Nat.{ℕ, _≤_}
 use mathlib.Core.List.{[], _∷_, List}
@@ -60,20 +60,20 @@ use Rattle.tables.proofs.UpdateAnswer.Laws as U′
 use Rattle.tables.proofs.OffsetAnswer as O
 use Rattle.tables.proofs.OffsetAnswer.Laws as O′
 use Rattle.lent.specs.Copied.{answersIn, answersOf}
-use Rattle.lent.specs.declared.copied.Answers.{Answers}
-use Rattle.lent.proofs.copied.Answers as S
-use Rattle.lent.proofs.copied.Answers.Laws as S′
+use Rattle.lent.specs.declared.inner.copied.Answers.{Answers}
+use Rattle.lent.proofs.inner.copied.Answers as S
+use Rattle.lent.proofs.inner.copied.Answers.Laws as S′
 use Rattle.lent.proofs.Told.{calls-spelled}
 use Rattle.lent.proofs.InALocal.{Entries, avs, av, array-in, array-out}
 use Rattle.lent.proofs.Prefix.{Rest, Elems, prefix-out, prefix-in}
 use Rattle.lent.proofs.Asked.{List&, asks}
 use Rattle.lent.proofs.tai_minus_utc_at as at-call
-use Rattle.lent.proofs.copied.lent_to_all.Key.{name as #this}
-use Rattle.lent.proofs.copied.lent_to_all as this
-use Rattle.lent.proofs.copied.lent_to_all.Statement as stated
-use Rattle.lent.proofs.copied.lent_to_all.Code as code
-use Rattle.lent.proofs.copied.lent_to_all.Proof.Callees.{zv, LookingUp, to-at, hands-at, Known, known}
-use Rattle.lent.proofs.copied.lent_to_all.Proof.Replies.{Checks, Measures, Empties, Updates, Currents, Finds, sv, all, together, is-all}
+use Rattle.lent.proofs.inner.copied.lent_to_all.Key.{name as #this}
+use Rattle.lent.proofs.inner.copied.lent_to_all as this
+use Rattle.lent.proofs.inner.copied.lent_to_all.Statement as stated
+use Rattle.lent.proofs.inner.copied.lent_to_all.Code as code
+use Rattle.lent.proofs.inner.copied.lent_to_all.Proof.Callees.{zv, LookingUp, to-at, hands-at, Known, known}
+use Rattle.lent.proofs.inner.copied.lent_to_all.Proof.Replies.{Checks, Measures, Empties, Updates, Currents, Finds, sv, all, together, is-all}
 mod Replies
 mod Callees
 

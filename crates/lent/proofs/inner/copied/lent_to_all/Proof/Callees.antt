@@ -49,8 +49,8 @@ use Rattle.lent.proofs.current_tai_minus_utc.Met as current-thm
 use Rattle.lent.proofs.tai_minus_utc_at.Symbol as at-def
 use Rattle.lent.proofs.tai_minus_utc_at.Symbol.{name as #at}
 use Rattle.lent.proofs.tai_minus_utc_at.Met as at-thm
-use Rattle.lent.proofs.copied.lent_to_all.Code as code
-use Rattle.lent.proofs.copied.lent_to_all.Proof.Replies.{Checks, Measures, Empties, Updates, Currents}
+use Rattle.lent.proofs.inner.copied.lent_to_all.Code as code
+use Rattle.lent.proofs.inner.copied.lent_to_all.Proof.Replies.{Checks, Measures, Empties, Updates, Currents}
 
 abbrev pub zv : Tai → Val
 zv z = LL.val Z.the-type Z′.the-laws z

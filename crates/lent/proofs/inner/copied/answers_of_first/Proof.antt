@@ -1,4 +1,4 @@
--- `copied::answers_of_first` lends no more than the 70 entries that there are.
+-- `inner::copied::answers_of_first` lends no more than the 70 entries that there are.
 use mathlib.Core.Path.{_≡_, sym, ap, _∙_}
 use mathlib.Core.List.{List}
 use Prim.Native.Nat.{ℕ, _≤_, min}
@@ -10,8 +10,8 @@ use lib.ListN.{length, take}
 use lib.Seq.{take-all}
 use Rattle.tables.specs.Entries.{Entry}
 use Rattle.lent.specs.Copied.{answersOf}
-use Rattle.lent.proofs.copied.answers_of_first.Statement.{statement}
-use Rattle.lent.proofs.copied.answers_of_first.Tie as tie
+use Rattle.lent.proofs.inner.copied.answers_of_first.Statement.{statement}
+use Rattle.lent.proofs.inner.copied.answers_of_first.Tie as tie
 
 same : (n : ℕ) (es : List Entry) → length es ≡ 70 → take (min n 70) es ≡ take n es
 same n es l = by-order (decLe n 70)

@@ -1,4 +1,4 @@
--- `copied::extended_in_place`: a local table is lent for a lifetime that is made for the call, and is back at the last value that the callee's contract says.
+-- `inner::copied::extended_in_place`: a local table is lent for a lifetime that is made for the call, and is back at the last value that the callee's contract says.
 use mathlib.Core.Path.{_≡_, refl}
 use Prim.Native.Nat.{ℕ}
 use mathlib.Core.List.{[], _∷_, List}
@@ -56,10 +56,10 @@ use Rattle.lent.proofs.try_extend as one
 use Rattle.lent.proofs.try_extend.Symbol as one-def
 use Rattle.lent.proofs.try_extend.Symbol.{name as #one}
 use Rattle.lent.proofs.try_extend.Met as one-thm
-use Rattle.lent.proofs.copied.extended_in_place.Key.{name as #this}
-use Rattle.lent.proofs.copied.extended_in_place as this
-use Rattle.lent.proofs.copied.extended_in_place.Statement as stated
-use Rattle.lent.proofs.copied.extended_in_place.Code as code
+use Rattle.lent.proofs.inner.copied.extended_in_place.Key.{name as #this}
+use Rattle.lent.proofs.inner.copied.extended_in_place as this
+use Rattle.lent.proofs.inner.copied.extended_in_place.Statement as stated
+use Rattle.lent.proofs.inner.copied.extended_in_place.Code as code
 
 abbrev stayed : Stays (this.ended .signature .params) (this.ended .kept)
 stayed = (stay-dropped (plain (λ _. T.the-row)) yes, (stay-dropped (plain (λ _. E.the-row)) yes, tt))
