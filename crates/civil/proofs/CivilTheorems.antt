@@ -153,6 +153,15 @@ fields-back f n r e =
     a : Answered (dayOf (dateIn f) -ℤ pos utcEpochDay) (timeOf f) n
     a = answered-on (dayOf (dateIn f) -ℤ pos utcEpochDay) (timeOf f) n e
 
+    few-hours : f .hour < 24
+    few-hours = omega (arith, r .hour)
+
+    few-minutes : f .minute < 60
+    few-minutes = omega (arith, r .minute)
+
+    few-seconds : f .second < 60
+    few-seconds = omega (arith, r .second)
+
     time : ℕ
     time = f .hour * 3600 + f .minute * 60 + f .second
 
@@ -175,18 +184,18 @@ fields-back f n r e =
         rest n s k e h = omega arith
 
     hour : n / 1000000000 % 86400 / 3600 ≡ f .hour
-    hour = ap (λ (s : ℕ). s % 86400 / 3600) whole-seconds ∙ back-hour (a .day) (f .hour) (f .minute) (f .second) (r .hour) (r .minute) (r .second)
+    hour = ap (λ (s : ℕ). s % 86400 / 3600) whole-seconds ∙ back-hour (a .day) (f .hour) (f .minute) (f .second) few-hours few-minutes few-seconds
 
     minute : n / 1000000000 % 3600 / 60 ≡ f .minute
-    minute = ap (λ (s : ℕ). s % 3600 / 60) whole-seconds ∙ back-minute (a .day) (f .hour) (f .minute) (f .second) (r .hour) (r .minute) (r .second)
+    minute = ap (λ (s : ℕ). s % 3600 / 60) whole-seconds ∙ back-minute (a .day) (f .hour) (f .minute) (f .second) few-hours few-minutes few-seconds
 
     second : n / 1000000000 % 60 ≡ f .second
-    second = ap (λ (s : ℕ). s % 60) whole-seconds ∙ back-second (a .day) (f .hour) (f .minute) (f .second) (r .hour) (r .minute) (r .second)
+    second = ap (λ (s : ℕ). s % 60) whole-seconds ∙ back-second (a .day) (f .hour) (f .minute) (f .second) few-hours few-minutes few-seconds
 
     date : dateOf (pos (n / 1000000000 / 86400 + utcEpochDay)) ≡ dateIn f
     date =
         ap (λ (d : ℕ). dateOf (pos (d + utcEpochDay))) (ap (λ (s : ℕ). s / 86400) whole-seconds ∙ back-day (a .day) (f .hour)
-        (f .minute) (f .second) (r .hour) (r .minute) (r .second))
+        (f .minute) (f .second) few-hours few-minutes few-seconds)
         ∙ ap dateOf (sym (sym (-ℤ-+ℤ-cancel (dayOf (dateIn f)) (pos utcEpochDay)) ∙ ap (λ (z : ℤ). z +ℤ pos utcEpochDay) (a .is)))
         ∙ date-of-day (dateIn f) (r .date)
 
