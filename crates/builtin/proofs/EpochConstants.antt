@@ -1,5 +1,5 @@
--- The constants of the definitions are what the calendar counts, day by day, between the dates of their epochs, because the formula
--- computes them and is the calendar on real dates.
+-- The constants of the definitions are what the calendar counts, day by day, between the dates of their epochs, because
+-- the formula computes them and is the calendar on real dates.
 use mathlib.Core.Path.{_≡_, refl}
 use Prim.Native.Nat.{ℕ, _-_, _*_}
 use lib.IntN.{ℤ, pos, natAbs, _+ℤ_, _-ℤ_}
@@ -38,11 +38,13 @@ GpsInUtc = DaysOn (on (pos 1972) 1 1) (on (pos 1980) 1 6) 2927 × (E ≡ 2927 * 
 
 -- GLONASS time begins at midnight of 1996-01-01 in Moscow, three hours ahead of UTC
 abbrev pub GlonassInUtc : Type 0
-GlonassInUtc = DaysOn (on (pos 1972) 1 1) (on (pos 1996) 1 1) 8766 × (glonassEpoch ≡ (8766 * daySeconds - 3 * 3600) * second)
+GlonassInUtc =
+    DaysOn (on (pos 1972) 1 1) (on (pos 1996) 1 1) 8766 × (glonassEpoch ≡ (8766 * daySeconds - 3 * 3600) * second)
 
 -- at the TAI reading of an epoch's midnight the built-in table has the offset that its events count
 abbrev pub EpochsAreInTheTable : Type 0
-EpochsAreInTheTable = (e : ScaleEpoch) → offsetAt builtin (natAbs (thresholdOf (epochIn e) (leapSecondsAt e))) ≡ leapSecondsAt e
+EpochsAreInTheTable =
+    (e : ScaleEpoch) → offsetAt builtin (natAbs (thresholdOf (epochIn e) (leapSecondsAt e))) ≡ leapSecondsAt e
 
 -- three hours before, where GLONASS counts begin, the offset is one less
 abbrev pub GlonassBegins : Type 0

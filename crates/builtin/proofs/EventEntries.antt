@@ -25,7 +25,8 @@ use Rattle.builtin.specs.Events.{midnight, eventThreshold, entryOfEvent}
 -- ---- the statements
 -- where a day's midnight has a UTC count, the threshold is UTC − E + offset
 abbrev pub ThresholdIsByUtc : Type 0
-ThresholdIsByUtc = (d : Date) (n : ℤ) (utc : ℕ) → countAt (midnight d) ≡ answered utc → thresholdOf d n ≡ pos utc -ℤ pos E +ℤ inNanos n
+ThresholdIsByUtc =
+    (d : Date) (n : ℤ) (utc : ℕ) → countAt (midnight d) ≡ answered utc → thresholdOf d n ≡ pos utc -ℤ pos E +ℤ inNanos n
 
 -- for a date that the calendar has, the UTC count is that of the calendar's day
 abbrev pub EventsGoByTheCalendar : Type 0

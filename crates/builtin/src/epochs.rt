@@ -12,7 +12,8 @@ pub enum ScaleEpoch {
 }
 
 impl ScaleEpoch {
-    // In seconds, on the UTC day of the epoch's date. GLONASS time itself begins three hours before that day, where it is 29.
+    // TAI minus UTC in seconds, on the UTC day of the epoch's date. GLONASS counts begin three hours before that day,
+    // where it is 29.
     pub fn leap_seconds(self) -> i64
         ensures { λ r. ⌜ r ≡ leapSecondsAt self ⌝ }
     {

@@ -1,6 +1,6 @@
-// The entry of a leap-second event, from what IERS Bulletin C says of it: the UTC date with which the new offset begins, and
-// that offset. Do not take the threshold from `utc_to_gps`: the UTC count of that midnight is the inserted second's too, and
-// the conversion gives the first of the two, a second before the threshold.
+// The entry of a leap-second event, from what IERS Bulletin C says of it: the UTC date that begins with the new offset,
+// and that offset. Do not take the threshold from `utc_to_gps`: the UTC count of that midnight is the inserted second's
+// too, and the conversion gives the first of the two, a second before the threshold.
 ghost use mathlib.Core.Path.{_≡_};
 ghost use lib.IntN.{pos, _+ℤ_, _-ℤ_};
 ghost use Rattle.counts.specs.Exact.{countOf};
