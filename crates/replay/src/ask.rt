@@ -5,6 +5,7 @@ pub mod changes;
 mod dates;
 mod glonass;
 mod gps;
+mod lists;
 mod tai;
 mod utc;
 
@@ -25,6 +26,7 @@ pub fn ask(call: u64, q: Question) -> Reply {
         74..=82 => by_builtin::builtin(call - 73, q),
         83..=94 => by_table::by_table(call - 82, q),
         95..=98 => changes::changes(call - 94, q),
+        99..=104 => lists::lists(call - 98, q),
         _ => Reply::unknown(),
     }
 }

@@ -6,6 +6,7 @@ mod dates;
 mod epochs;
 mod glonass;
 mod gps;
+mod lists;
 mod said;
 mod tai;
 mod utc;
@@ -27,6 +28,7 @@ pub fn ask(call: u64, q: Question) -> Reply {
         74..=82 => by_builtin::builtin(call - 73, q),
         83..=94 => by_table::by_table(call - 82, q),
         95..=98 => changes::changes(call - 94, q),
+        99..=104 => lists::lists(call - 98, q),
         201..=203 => epochs::constants(call - 200, q.x),
         _ => Reply::unknown(),
     }

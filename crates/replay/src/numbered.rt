@@ -1,6 +1,7 @@
 // The tables of the recorded list, as images and by value. The list numbers them; its first lines have their entries.
 ghost use Prim.Native.Nat.{_+_, _≤_};
 ghost use lib.ListN.{length};
+use crate::reply::Question;
 use images::inner;
 use plaitgate::leap_tables::plaitgate_table_from_builtin;
 use plaitgate::leap_tables::plaitgate_table_new;
@@ -85,8 +86,17 @@ fn table_in(image: &[u8; 776]) -> LeapTable {
     read.table
 }
 
+// The entries of a question as bytes: three, and behind them zeros up to 65.
+pub fn list(q: Question) -> [u8; 780] {
+    let mut list = [0u8; 780];
+    put_entry(&mut list, 0, q.y, q.offset());
+    put_entry(&mut list, 12, q.fourth, q.second_offset());
+    put_entry(&mut list, 24, q.sixth, q.third_offset());
+    list
+}
+
 // Writes an entry to a list of entries, from a byte on.
-pub fn put_entry(list: &mut [u8], at: usize, tai_nanos: u64, tai_minus_utc: i32)
+fn put_entry(list: &mut [u8], at: usize, tai_nanos: u64, tai_minus_utc: i32)
     requires { ⌜ at + 12 ≤ length (now list) ⌝ }
 {
     inner::put_number(list, at, 8, tai_nanos);

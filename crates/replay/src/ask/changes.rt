@@ -28,10 +28,7 @@ pub fn change(call: u64, q: Question, image: &mut [u8; 776]) -> u32 {
 
 // The table of the question's entries: none to three, or 65.
 fn from_entries(q: Question, image: &mut [u8; 776]) -> u32 {
-    let mut list = [0u8; 780];
-    numbered::put_entry(&mut list, 0, q.y, q.offset());
-    numbered::put_entry(&mut list, 12, q.fourth, q.second_offset());
-    numbered::put_entry(&mut list, 24, q.sixth, q.third_offset());
+    let list = numbered::list(q);
     let count = q.x;
     match count {
         0 => plaitgate_table_from_entries(&list[0..0], image),

@@ -3,6 +3,7 @@ use crate::ask;
 use crate::numbered;
 use crate::reply::Question;
 use crate::reply::Reply;
+use lent::inner::copied::extended_in_place;
 use tables::EntryAnswer;
 use tables::Extension;
 use tables::LeapEntry;
@@ -21,9 +22,13 @@ pub fn changes(call: u64, q: Question) -> Reply {
         return Reply::unknown();
     }
     let answer = made.answer;
+    afterwards(number_of(answer), table)
+}
+
+fn number_of(answer: Taken) -> u32 {
     match answer {
-        Taken::Done => afterwards(0, table),
-        Taken::Refused(why) => afterwards(why.number(), table),
+        Taken::Done => 0,
+        Taken::Refused(why) => why.number(),
     }
 }
 
@@ -32,7 +37,26 @@ fn change(call: u64, q: Question) -> Extension {
         1 => done(LeapTable::new()),
         2 => done(builtin::from_builtin()),
         3 => from_lists(q),
-        _ => numbered::table(q.x).try_extend(LeapEntry::new(q.y, q.offset())),
+        _ => extended(numbered::table(q.x), LeapEntry::new(q.y, q.offset())),
+    }
+}
+
+// Extended by value. Where extending in place gives another answer or another table, no line agrees with what comes back.
+fn extended(table: LeapTable, entry: LeapEntry) -> Extension {
+    let grown = table.try_extend(entry);
+    let answer = grown.answer;
+    let by_value = grown.table;
+    let other = extended_in_place(table, entry);
+    let other_answer = other.answer;
+    let in_place = other.table;
+    let mut one = [0u8; 776];
+    images::write(by_value, &mut one);
+    let mut two = [0u8; 776];
+    images::write(in_place, &mut two);
+    if number_of(answer) == number_of(other_answer) && same_bytes(&one, &two) {
+        grown
+    } else {
+        done(LeapTable::new())
     }
 }
 

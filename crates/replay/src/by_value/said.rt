@@ -18,6 +18,7 @@ use tables::EmptyAnswer;
 use tables::EntryAnswer;
 use tables::LengthAnswer;
 use tables::OffsetAnswer;
+use tables::Taken;
 use tables::UpdateAnswer;
 
 pub fn gps(answer: GpsAnswer) -> Reply {
@@ -123,6 +124,13 @@ pub fn civil(c: CivilDateTime) -> Reply {
             c.nanos as u64,
         ],
     )
+}
+
+pub fn taken(answer: Taken) -> Reply {
+    match answer {
+        Taken::Done => Reply::one(0, 0),
+        Taken::Refused(why) => Reply::refused(why),
+    }
 }
 
 pub fn length(answer: LengthAnswer) -> Reply {
