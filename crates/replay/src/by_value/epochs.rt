@@ -1,7 +1,7 @@
 // The epochs, the lengths between them and the leap seconds at them. No call exports them.
 use crate::by_value::said;
 use crate::reply::Reply;
-use calendar::epochs;
+use builtin::epochs::ScaleEpoch;
 use calendar::epochs::Epoch;
 use calendar::epochs::EpochSpan;
 
@@ -41,9 +41,9 @@ fn span(which: u64) -> EpochSpan {
 
 fn leap_seconds(which: u64) -> i64 {
     match which {
-        0 => epochs::LEAP_SECONDS_AT_GPS_EPOCH,
-        1 => epochs::LEAP_SECONDS_AT_GLONASS_EPOCH,
-        2 => epochs::LEAP_SECONDS_AT_GALILEO_EPOCH,
-        _ => epochs::LEAP_SECONDS_AT_BEIDOU_EPOCH,
+        0 => ScaleEpoch::Gps.leap_seconds(),
+        1 => ScaleEpoch::Glonass.leap_seconds(),
+        2 => ScaleEpoch::Galileo.leap_seconds(),
+        _ => ScaleEpoch::Beidou.leap_seconds(),
     }
 }
