@@ -8,3 +8,4 @@ pub mod Demand1
 pub mod Demand3
 pub mod EveryExample
 pub mod InsertedSecond
+pub mod Pinned
