@@ -2,19 +2,19 @@
 -- A refused one keeps the table.
 use mathlib.Core.Path.{_≡_, refl, sym, ap, _∙_}
 use mathlib.Core.Bool.{Bool, true, false}
-use mathlib.Core.List.{List, [], _∷_, _++_}
-use Prim.Native.Nat.{ℕ, _+_, _≤_, _<_}
+use mathlib.Core.List.{List, [], _∷_, _++_, map}
+use Prim.Native.Nat.{ℕ, _+_, _-_, _≤_, _<_}
 use native.Mathlib.Omega.{arith}
 use native.Mathlib.Decide.{decLt}
 use native.Mathlib.Numerals.{add-one}
 use borrow.Author.Tests.{le-leb, lt-leb, ne-eqb}
-use lib.ListN.{length, length-append, getD}
+use lib.ListN.{length, length-append, length-map, length-replicate, length-set, replicate, getD}
 use lib.Seq.{getD-set-other}
 use lib.IntN.{pos}
 use Rattle.refusals.specs.declared.Refusal.{Refusal}
 use Rattle.tables.specs.Answers.{takenIn}
-use Rattle.tables.specs.Entries.{Entry, neighbours, follows, valid, lastOr, joinRefusal}
-use Rattle.tables.specs.Slots.{entriesOf, validTable, joinedTo, extensionRefusal, extended}
+use Rattle.tables.specs.Entries.{Entry, threshold, offset, neighbours, follows, valid, lastOr, joinRefusal}
+use Rattle.tables.specs.Slots.{entriesOf, validTable, tableOf, joinedTo, extensionRefusal, extended}
 use Rattle.tables.specs.declared.LeapEntry.{LeapEntry}
 use Rattle.tables.specs.declared.LeapTable.{LeapTable}
 use Rattle.tables.specs.declared.Taken.{Taken}
@@ -111,3 +111,19 @@ module _ (t : LeapTable) (e : LeapEntry) where
 pub try-extend : (κ : _) (a : _) (x : _) (end : _) → try-extend-contract.Post κ a x end
     → Extends (a .0) (a .1 .0) (x .answer) (x .table)
 try-extend κ a x end post = extends (a .0) (a .1 .0) (x .answer) (x .table) post
+
+-- every table that is made has its 64 slots, and an extension keeps them
+filled : {A : Type 0} (f : Entry → A) (d : A) (es : List Entry) → length es ≤ 64 → length (map f es ++ replicate (64 - length es) d) ≡ 64
+filled f d es short =
+    length-append (map f es) (replicate (64 - length es) d)
+    ∙ (λ i. length-map es f i + length-replicate (64 - length es) d i)
+    ∙ omega arith
+
+pub made-sized : (es : List Entry) → length es ≤ 64 → Sized (tableOf es)
+made-sized es short = record { thresholds = filled threshold 0 es short; offsets = filled offset (pos 0) es short }
+
+pub joined-sized : (t : LeapTable) (e : LeapEntry) → Sized t → Sized (joinedTo t e)
+joined-sized t e s = record {
+  thresholds = length-set (t .thresholds) (t .len) (threshold e) ∙ s .thresholds;
+  offsets = length-set (t .offsets) (t .len) (offset e) ∙ s .offsets;
+}
