@@ -2,6 +2,7 @@ mod LeapSeconds
 mod OnNaturals
 mod WayBack
 mod OnCounts
+mod Outcomes
 mod Told
 mod Beside
 pub mod Demand1
