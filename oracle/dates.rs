@@ -265,8 +265,8 @@ fn offsets() -> Vec<i128> {
     offsets
 }
 
-/// The offset that brings the threshold of a day of the calendar to the first count or to the last, and so many more,
-/// as far as 32 bits hold it.
+/// The offset that brings the threshold of a day of the calendar to the first count or to the last, plus `more`, as far
+/// as 32 bits hold it.
 fn offset_near_an_end(day: usize, greatest: bool, more: i128) -> i128 {
     let utc = (day as i128 - UTC_EPOCH_PLACE as i128) * NANOS_PER_DAY;
     let end = if greatest { i128::from(u64::MAX) } else { 0 };

@@ -64,7 +64,7 @@ fn entry(tai_nanos: i128, tai_minus_utc: i128) -> LeapEntry {
     LeapEntry::new(u64::narrow(tai_nanos), i32::narrow(tai_minus_utc))
 }
 
-/// So many entries: the three of the line, and behind them zeros.
+/// As many entries as the line says: its three, followed by zeros.
 fn entries(inputs: &[i128]) -> Vec<LeapEntry> {
     let mut entries: Vec<LeapEntry> = inputs[1..].chunks(2).map(|pair| entry(pair[0], pair[1])).collect();
     entries.resize(inputs[0] as usize, LeapEntry::new(0, 0));

@@ -40,7 +40,7 @@ macro_rules! sums {
     };
 }
 
-/// A duration of so many of each unit, and sums of two durations.
+/// Durations made from each unit, and sums of two durations.
 fn durations(count: i64) {
     let d = Duration::from_nanos(count);
     println!("{} {} {} {}", d.as_nanos(), d.as_micros(), d.as_millis(), d.as_seconds());

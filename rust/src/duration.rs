@@ -29,7 +29,7 @@ const NANOS_PER_MICRO: i64 = 1_000;
 const NANOS_PER_MILLI: i64 = 1_000_000;
 const NANOS_PER_SECOND: i64 = 1_000_000_000;
 
-/// The calls that make a duration of so many of a unit.
+/// The calls that make a duration from a number of units.
 macro_rules! units {
     ($($about:literal $checked_from:ident $nanos:expr;)*) => {
         impl Duration {

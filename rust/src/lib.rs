@@ -24,7 +24,7 @@
 //! [`RuntimeLeapSeconds`] are here as other names. docs/MOVING.md has the calls side by side.
 //!
 //! The library is `libplaitgate.a`. build.rs links the one in the folder that the variable `PLAITGATE_LIB_DIR` names, else
-//! the one that Plaitgate's tools make beside this crate, anew whenever a source of the library has changed.
+//! the one that Plaitgate's tools make in this repository, anew whenever a source of the library has changed.
 
 #![cfg_attr(not(any(feature = "std", test)), no_std)]
 #![warn(missing_debug_implementations, unused_must_use)]

@@ -18,7 +18,7 @@ fields y mo d h mi s n = record { year = y; month = mo; day = d; hour = h; minut
 abbrev pub dateIn : CivilDateTime → calendar.Date
 dateIn c = calendar.on (c .year) (c .month) (c .day)
 
--- a date, and the time of day of so many seconds since a midnight, and nanoseconds
+-- the fields of a date and of the time of day after s seconds and n nanoseconds
 abbrev pub fieldsOn : calendar.Date → ℕ → ℕ → CivilDateTime
 fieldsOn d s n = fields (d .year) (d .month) (d .day) (s % units.daySeconds / 3600) (s % 3600 / 60) (s % 60) n
 

@@ -1,4 +1,4 @@
--- Demand 1 of each call, by groups: beside a refusal a host is given zeros, and a refused table stays as it was.
+-- Demand 1, call by call: a refusal writes zeros, and a table that is refused an entry does not change.
 pub mod Scales
 pub mod CivilTimes
 pub mod Conversions

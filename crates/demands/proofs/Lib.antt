@@ -4,7 +4,7 @@ mod WayBack
 mod OnCounts
 mod Outcomes
 mod Told
-mod Beside
+mod Zeros
 pub mod Demand1
 pub mod Demand3
 pub mod EveryExample

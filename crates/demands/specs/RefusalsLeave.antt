@@ -1,6 +1,6 @@
 -- Demand 1: a refusal gives zeros, and leaves the table as it was. proofs/Demand1 has it of each call.
 -- A contract is read as the checker reads it: a statement of the lifetimes, the arguments, the answer, and what the
--- arguments are at the end. What a call writes stands behind references, told by their place among the arguments.
+-- arguments are at the end. What a call writes is read through its references, named by their place among the arguments.
 use mathlib.Core.Path.{_≡_}
 use mathlib.Core.Logic.{_≢_}
 use mathlib.Core.List.{List, []}
@@ -31,8 +31,8 @@ module _ {Lifetimes : Type 0} {Arguments Answer End : Lifetimes → Type 0}
 module _ {Lifetimes : Type 0} {Arguments End : Lifetimes → Type 0}
     (Contract : (κ : Lifetimes) → Arguments κ → ℕ → End κ → Type 0) where
   -- what the call has written is zeros
-  abbrev pub ZerosBeside : {Left : Type 0} → Left → ((κ : Lifetimes) → End κ → Left) → Type 0
-  ZerosBeside zeros left = RefusalLeaves Contract (λ κ k. k) (λ κ k e. left κ e) (λ κ a. zeros)
+  abbrev pub ZerosOnRefusal : {Left : Type 0} → Left → ((κ : Lifetimes) → End κ → Left) → Type 0
+  ZerosOnRefusal zeros left = RefusalLeaves Contract (λ κ k. k) (λ κ k e. left κ e) (λ κ a. zeros)
 
   -- an image has the bytes that came
   abbrev pub BytesKept : ((κ : Lifetimes) → Arguments κ → List ℕ) → ((κ : Lifetimes) → End κ → List ℕ) → Type 0

@@ -86,7 +86,7 @@ fn table_in(image: &[u8; 776]) -> LeapTable {
     read.table
 }
 
-// The entries of a question as bytes: three, and behind them zeros up to 65.
+// The entries of a question as bytes: three, followed by zeros up to 65.
 pub fn list(q: Question) -> [u8; 780] {
     let mut list = [0u8; 780];
     put_entry(&mut list, 0, q.y, q.offset());

@@ -69,7 +69,7 @@ pub fn fields(s: &[u8]) -> CivilDateTime
     }
 }
 
-// Two digits, a year in four, and nine digits, each with the mark behind them.
+// Two digits, a year in four, and nine digits, each followed by its mark.
 fn put_two_and(out: &mut [u8], at: usize, n: u8, mark: u8)
     requires { ⌜ n < 10 ^ 2 ⌝ }
     requires { ⌜ at + 3 ≤ length (now out) ⌝ }

@@ -16,7 +16,7 @@ use Rattle.tables.proofs.Integers.{equal-true, equal-yes}
 use Rattle.tables.proofs.FirstSlots.{some-at, none-at}
 use Rattle.tables.proofs.Neighbours.{both, at-each}
 
--- at each place but the last, the entry and the one behind it
+-- at each place except the last, the entry and the next one
 abbrev pub AtEach : (Entry → Entry → Type 0) → List Entry → Type 0
 AtEach Fact es = (k : ℕ) (p e : Entry) → getElem? es k ≡ some p → getElem? es (suc k) ≡ some e → Fact p e
 

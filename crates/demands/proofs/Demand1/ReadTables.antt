@@ -1,4 +1,4 @@
--- Readers of an image: each call gives the number and the value of an outcome, so zeros beside a refusal.
+-- Readers of an image: each call gives the number and the value of an outcome, so a refusal writes zeros.
 use lib.Dec.{eqb}
 use lib.ListN.{length, getElem?}
 use lib.IntN.{pos}
@@ -8,28 +8,28 @@ use Rattle.tables.specs.Entries.{entry, offsetAt, currentOffset, lastUpdate}
 use Rattle.plaitgate.specs.Tables.{changed, bit, foundAs, foundEntry, foundCount}
 use Rattle.plaitgate.proofs.leap_tables
 use Rattle.images.specs.Image.{byImage}
-use Rattle.demands.specs.RefusalsLeave.{ZerosBeside}
-use Rattle.demands.proofs.Beside.{zeros-beside}
+use Rattle.demands.specs.RefusalsLeave.{ZerosOnRefusal}
+use Rattle.demands.proofs.Zeros.{zeros-on-refusal}
 
-pub len : ZerosBeside leap_tables.plaitgate_table_len.Reads.Post 0 (λ κ e. now (e .1 .0))
-len κ a k e = zeros-beside (byImage (now (a .0)) (λ es. answered (length es)))
+pub len : ZerosOnRefusal leap_tables.plaitgate_table_len.Reads.Post 0 (λ κ e. now (e .1 .0))
+len κ a k e = zeros-on-refusal (byImage (now (a .0)) (λ es. answered (length es)))
 
-pub is-empty : ZerosBeside leap_tables.plaitgate_table_is_empty.Reads.Post 0 (λ κ e. now (e .1 .0))
-is-empty κ a k e = zeros-beside (changed bit (byImage (now (a .0)) (λ es. answered (eqb (length es) 0))))
+pub is-empty : ZerosOnRefusal leap_tables.plaitgate_table_is_empty.Reads.Post 0 (λ κ e. now (e .1 .0))
+is-empty κ a k e = zeros-on-refusal (changed bit (byImage (now (a .0)) (λ es. answered (eqb (length es) 0))))
 
-pub entry-at : ZerosBeside leap_tables.plaitgate_table_entry_at.Reads.Post
+pub entry-at : ZerosOnRefusal leap_tables.plaitgate_table_entry_at.Reads.Post
     (foundAs 0 (entry 0 (pos 0)))
     (λ κ e. foundAs (now (e .1 .1 .0)) (entry (now (e .1 .1 .1 .0)) (now (e .1 .1 .1 .1 .0))))
-entry-at κ a k e = zeros-beside (changed foundEntry (byImage (now (a .0)) (λ es. answered (getElem? es (a .1 .0)))))
+entry-at κ a k e = zeros-on-refusal (changed foundEntry (byImage (now (a .0)) (λ es. answered (getElem? es (a .1 .0)))))
 
-pub last-update : ZerosBeside leap_tables.plaitgate_table_last_update.Reads.Post
+pub last-update : ZerosOnRefusal leap_tables.plaitgate_table_last_update.Reads.Post
     (foundAs 0 0) (λ κ e. foundAs (now (e .1 .0)) (now (e .1 .1 .0)))
-last-update κ a k e = zeros-beside (changed foundCount (byImage (now (a .0)) (λ es. answered (lastUpdate es))))
+last-update κ a k e = zeros-on-refusal (changed foundCount (byImage (now (a .0)) (λ es. answered (lastUpdate es))))
 
-pub current-tai-minus-utc : ZerosBeside leap_tables.plaitgate_table_current_tai_minus_utc.Reads.Post
+pub current-tai-minus-utc : ZerosOnRefusal leap_tables.plaitgate_table_current_tai_minus_utc.Reads.Post
     (pos 0) (λ κ e. now (e .1 .0))
-current-tai-minus-utc κ a k e = zeros-beside (byImage (now (a .0)) (λ es. answered (currentOffset es)))
+current-tai-minus-utc κ a k e = zeros-on-refusal (byImage (now (a .0)) (λ es. answered (currentOffset es)))
 
-pub tai-minus-utc-at : ZerosBeside leap_tables.plaitgate_table_tai_minus_utc_at.Reads.Post
+pub tai-minus-utc-at : ZerosOnRefusal leap_tables.plaitgate_table_tai_minus_utc_at.Reads.Post
     (pos 0) (λ κ e. now (e .1 .1 .0))
-tai-minus-utc-at κ a k e = zeros-beside (byImage (now (a .0)) (λ es. answered (offsetAt es (a .1 .0))))
+tai-minus-utc-at κ a k e = zeros-on-refusal (byImage (now (a .0)) (λ es. answered (offsetAt es (a .1 .0))))

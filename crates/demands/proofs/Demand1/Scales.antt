@@ -1,4 +1,4 @@
--- Counts and durations: each call gives the number and the value of an outcome, so zeros beside a refusal.
+-- Counts and durations: each call gives the number and the value of an outcome, so a refusal writes zeros.
 use Prim.Native.Nat.{ℕ, _+_, _*_}
 use lib.IntN.{pos, _+ℤ_, _-ℤ_, _*ℤ_}
 use denote.Ref.{now}
@@ -11,81 +11,81 @@ use Rattle.plaitgate.proofs.glonass
 use Rattle.plaitgate.proofs.gps
 use Rattle.plaitgate.proofs.tai
 use Rattle.plaitgate.proofs.utc
-use Rattle.demands.specs.RefusalsLeave.{ZerosBeside}
-use Rattle.demands.proofs.Beside.{zeros-beside}
+use Rattle.demands.specs.RefusalsLeave.{ZerosOnRefusal}
+use Rattle.demands.proofs.Zeros.{zeros-on-refusal}
 
 abbrev partsWith : ℕ → ℕ → DurationParts
 partsWith s n = record { seconds = s; nanos = n }
 
-pub gps-checked-from-seconds : ZerosBeside gps.plaitgate_gps_checked_from_seconds.Reads.Post 0 (λ κ e. now (e .1 .0))
-gps-checked-from-seconds κ a k e = zeros-beside (countOf (pos (a .0 * second)))
+pub gps-checked-from-seconds : ZerosOnRefusal gps.plaitgate_gps_checked_from_seconds.Reads.Post 0 (λ κ e. now (e .1 .0))
+gps-checked-from-seconds κ a k e = zeros-on-refusal (countOf (pos (a .0 * second)))
 
-pub gps-checked-add : ZerosBeside gps.plaitgate_gps_checked_add.Reads.Post 0 (λ κ e. now (e .1 .1 .0))
-gps-checked-add κ a k e = zeros-beside (countOf (pos (a .0) +ℤ a .1 .0))
+pub gps-checked-add : ZerosOnRefusal gps.plaitgate_gps_checked_add.Reads.Post 0 (λ κ e. now (e .1 .1 .0))
+gps-checked-add κ a k e = zeros-on-refusal (countOf (pos (a .0) +ℤ a .1 .0))
 
-pub gps-checked-sub-duration : ZerosBeside gps.plaitgate_gps_checked_sub_duration.Reads.Post 0 (λ κ e. now (e .1 .1 .0))
-gps-checked-sub-duration κ a k e = zeros-beside (countOf (pos (a .0) -ℤ a .1 .0))
+pub gps-checked-sub-duration : ZerosOnRefusal gps.plaitgate_gps_checked_sub_duration.Reads.Post 0 (λ κ e. now (e .1 .1 .0))
+gps-checked-sub-duration κ a k e = zeros-on-refusal (countOf (pos (a .0) -ℤ a .1 .0))
 
-pub gps-checked-elapsed : ZerosBeside gps.plaitgate_gps_checked_elapsed.Reads.Post (pos 0) (λ κ e. now (e .1 .1 .0))
-gps-checked-elapsed κ a k e = zeros-beside (durationOf (pos (a .0) -ℤ pos (a .1 .0)))
+pub gps-checked-elapsed : ZerosOnRefusal gps.plaitgate_gps_checked_elapsed.Reads.Post (pos 0) (λ κ e. now (e .1 .1 .0))
+gps-checked-elapsed κ a k e = zeros-on-refusal (durationOf (pos (a .0) -ℤ pos (a .1 .0)))
 
-pub utc-checked-from-seconds : ZerosBeside utc.plaitgate_utc_checked_from_seconds.Reads.Post 0 (λ κ e. now (e .1 .0))
-utc-checked-from-seconds κ a k e = zeros-beside (countOf (pos (a .0 * second)))
+pub utc-checked-from-seconds : ZerosOnRefusal utc.plaitgate_utc_checked_from_seconds.Reads.Post 0 (λ κ e. now (e .1 .0))
+utc-checked-from-seconds κ a k e = zeros-on-refusal (countOf (pos (a .0 * second)))
 
-pub utc-checked-add : ZerosBeside utc.plaitgate_utc_checked_add.Reads.Post 0 (λ κ e. now (e .1 .1 .0))
-utc-checked-add κ a k e = zeros-beside (countOf (pos (a .0) +ℤ a .1 .0))
+pub utc-checked-add : ZerosOnRefusal utc.plaitgate_utc_checked_add.Reads.Post 0 (λ κ e. now (e .1 .1 .0))
+utc-checked-add κ a k e = zeros-on-refusal (countOf (pos (a .0) +ℤ a .1 .0))
 
-pub utc-checked-sub-duration : ZerosBeside utc.plaitgate_utc_checked_sub_duration.Reads.Post 0 (λ κ e. now (e .1 .1 .0))
-utc-checked-sub-duration κ a k e = zeros-beside (countOf (pos (a .0) -ℤ a .1 .0))
+pub utc-checked-sub-duration : ZerosOnRefusal utc.plaitgate_utc_checked_sub_duration.Reads.Post 0 (λ κ e. now (e .1 .1 .0))
+utc-checked-sub-duration κ a k e = zeros-on-refusal (countOf (pos (a .0) -ℤ a .1 .0))
 
-pub utc-checked-elapsed : ZerosBeside utc.plaitgate_utc_checked_elapsed.Reads.Post (pos 0) (λ κ e. now (e .1 .1 .0))
-utc-checked-elapsed κ a k e = zeros-beside (durationOf (pos (a .0) -ℤ pos (a .1 .0)))
+pub utc-checked-elapsed : ZerosOnRefusal utc.plaitgate_utc_checked_elapsed.Reads.Post (pos 0) (λ κ e. now (e .1 .1 .0))
+utc-checked-elapsed κ a k e = zeros-on-refusal (durationOf (pos (a .0) -ℤ pos (a .1 .0)))
 
-pub glonass-checked-from-seconds : ZerosBeside glonass.plaitgate_glonass_checked_from_seconds.Reads.Post
+pub glonass-checked-from-seconds : ZerosOnRefusal glonass.plaitgate_glonass_checked_from_seconds.Reads.Post
     0 (λ κ e. now (e .1 .0))
-glonass-checked-from-seconds κ a k e = zeros-beside (countOf (pos (a .0 * second)))
+glonass-checked-from-seconds κ a k e = zeros-on-refusal (countOf (pos (a .0 * second)))
 
-pub glonass-checked-add : ZerosBeside glonass.plaitgate_glonass_checked_add.Reads.Post 0 (λ κ e. now (e .1 .1 .0))
-glonass-checked-add κ a k e = zeros-beside (countOf (pos (a .0) +ℤ a .1 .0))
+pub glonass-checked-add : ZerosOnRefusal glonass.plaitgate_glonass_checked_add.Reads.Post 0 (λ κ e. now (e .1 .1 .0))
+glonass-checked-add κ a k e = zeros-on-refusal (countOf (pos (a .0) +ℤ a .1 .0))
 
-pub glonass-checked-sub-duration : ZerosBeside glonass.plaitgate_glonass_checked_sub_duration.Reads.Post
+pub glonass-checked-sub-duration : ZerosOnRefusal glonass.plaitgate_glonass_checked_sub_duration.Reads.Post
     0 (λ κ e. now (e .1 .1 .0))
-glonass-checked-sub-duration κ a k e = zeros-beside (countOf (pos (a .0) -ℤ a .1 .0))
+glonass-checked-sub-duration κ a k e = zeros-on-refusal (countOf (pos (a .0) -ℤ a .1 .0))
 
-pub glonass-checked-elapsed : ZerosBeside glonass.plaitgate_glonass_checked_elapsed.Reads.Post
+pub glonass-checked-elapsed : ZerosOnRefusal glonass.plaitgate_glonass_checked_elapsed.Reads.Post
     (pos 0) (λ κ e. now (e .1 .1 .0))
-glonass-checked-elapsed κ a k e = zeros-beside (durationOf (pos (a .0) -ℤ pos (a .1 .0)))
+glonass-checked-elapsed κ a k e = zeros-on-refusal (durationOf (pos (a .0) -ℤ pos (a .1 .0)))
 
-pub tai-checked-from-seconds : ZerosBeside tai.plaitgate_tai_checked_from_seconds.Reads.Post 0 (λ κ e. now (e .1 .0))
-tai-checked-from-seconds κ a k e = zeros-beside (countOf (pos (a .0 * second)))
+pub tai-checked-from-seconds : ZerosOnRefusal tai.plaitgate_tai_checked_from_seconds.Reads.Post 0 (λ κ e. now (e .1 .0))
+tai-checked-from-seconds κ a k e = zeros-on-refusal (countOf (pos (a .0 * second)))
 
-pub tai-checked-add : ZerosBeside tai.plaitgate_tai_checked_add.Reads.Post 0 (λ κ e. now (e .1 .1 .0))
-tai-checked-add κ a k e = zeros-beside (countOf (pos (a .0) +ℤ a .1 .0))
+pub tai-checked-add : ZerosOnRefusal tai.plaitgate_tai_checked_add.Reads.Post 0 (λ κ e. now (e .1 .1 .0))
+tai-checked-add κ a k e = zeros-on-refusal (countOf (pos (a .0) +ℤ a .1 .0))
 
-pub tai-checked-sub-duration : ZerosBeside tai.plaitgate_tai_checked_sub_duration.Reads.Post 0 (λ κ e. now (e .1 .1 .0))
-tai-checked-sub-duration κ a k e = zeros-beside (countOf (pos (a .0) -ℤ a .1 .0))
+pub tai-checked-sub-duration : ZerosOnRefusal tai.plaitgate_tai_checked_sub_duration.Reads.Post 0 (λ κ e. now (e .1 .1 .0))
+tai-checked-sub-duration κ a k e = zeros-on-refusal (countOf (pos (a .0) -ℤ a .1 .0))
 
-pub tai-checked-elapsed : ZerosBeside tai.plaitgate_tai_checked_elapsed.Reads.Post (pos 0) (λ κ e. now (e .1 .1 .0))
-tai-checked-elapsed κ a k e = zeros-beside (durationOf (pos (a .0) -ℤ pos (a .1 .0)))
+pub tai-checked-elapsed : ZerosOnRefusal tai.plaitgate_tai_checked_elapsed.Reads.Post (pos 0) (λ κ e. now (e .1 .1 .0))
+tai-checked-elapsed κ a k e = zeros-on-refusal (durationOf (pos (a .0) -ℤ pos (a .1 .0)))
 
-pub gps-from-week-tow : ZerosBeside gps.plaitgate_gps_from_week_tow.Reads.Post 0 (λ κ e. now (e .1 .1 .1 .0))
-gps-from-week-tow κ a k e = zeros-beside (ofUnits weekSeconds (a .0) (a .1 .0) (a .1 .1 .0))
+pub gps-from-week-tow : ZerosOnRefusal gps.plaitgate_gps_from_week_tow.Reads.Post 0 (λ κ e. now (e .1 .1 .1 .0))
+gps-from-week-tow κ a k e = zeros-on-refusal (ofUnits weekSeconds (a .0) (a .1 .0) (a .1 .1 .0))
 
-pub gps-to-tai : ZerosBeside gps.plaitgate_gps_to_tai.Reads.Post 0 (λ κ e. now (e .1 .0))
-gps-to-tai κ a k e = zeros-beside (countOf (pos (a .0 + taiMinusGps)))
+pub gps-to-tai : ZerosOnRefusal gps.plaitgate_gps_to_tai.Reads.Post 0 (λ κ e. now (e .1 .0))
+gps-to-tai κ a k e = zeros-on-refusal (countOf (pos (a .0 + taiMinusGps)))
 
-pub gps-from-tai : ZerosBeside gps.plaitgate_gps_from_tai.Reads.Post 0 (λ κ e. now (e .1 .0))
-gps-from-tai κ a k e = zeros-beside (countOf (pos (a .0) -ℤ pos taiMinusGps))
+pub gps-from-tai : ZerosOnRefusal gps.plaitgate_gps_from_tai.Reads.Post 0 (λ κ e. now (e .1 .0))
+gps-from-tai κ a k e = zeros-on-refusal (countOf (pos (a .0) -ℤ pos taiMinusGps))
 
-pub glonass-from-day-tod : ZerosBeside glonass.plaitgate_glonass_from_day_tod.Reads.Post 0 (λ κ e. now (e .1 .1 .1 .0))
-glonass-from-day-tod κ a k e = zeros-beside (ofUnits daySeconds (a .0) (a .1 .0) (a .1 .1 .0))
+pub glonass-from-day-tod : ZerosOnRefusal glonass.plaitgate_glonass_from_day_tod.Reads.Post 0 (λ κ e. now (e .1 .1 .1 .0))
+glonass-from-day-tod κ a k e = zeros-on-refusal (ofUnits daySeconds (a .0) (a .1 .0) (a .1 .1 .0))
 
-pub utc-from-unix-seconds : ZerosBeside utc.plaitgate_utc_from_unix_seconds.Reads.Post 0 (λ κ e. now (e .1 .0))
-utc-from-unix-seconds κ a k e = zeros-beside (countOf ((a .0 -ℤ pos unixOffset) *ℤ pos second))
+pub utc-from-unix-seconds : ZerosOnRefusal utc.plaitgate_utc_from_unix_seconds.Reads.Post 0 (λ κ e. now (e .1 .0))
+utc-from-unix-seconds κ a k e = zeros-on-refusal (countOf ((a .0 -ℤ pos unixOffset) *ℤ pos second))
 
-pub utc-from-unix-nanos : ZerosBeside utc.plaitgate_utc_from_unix_nanos.Reads.Post 0 (λ κ e. now (e .1 .0))
-utc-from-unix-nanos κ a k e = zeros-beside (countOf (a .0 -ℤ pos (unixOffset * second)))
+pub utc-from-unix-nanos : ZerosOnRefusal utc.plaitgate_utc_from_unix_nanos.Reads.Post 0 (λ κ e. now (e .1 .0))
+utc-from-unix-nanos κ a k e = zeros-on-refusal (countOf (a .0 -ℤ pos (unixOffset * second)))
 
-pub duration-parts-new : ZerosBeside durations.plaitgate_duration_parts_new.Reads.Post
+pub duration-parts-new : ZerosOnRefusal durations.plaitgate_duration_parts_new.Reads.Post
     (partsWith 0 0) (λ κ e. partsWith (now (e .1 .1 .0)) (now (e .1 .1 .1 .0)))
-duration-parts-new κ a k e = zeros-beside (partsFrom (a .0) (a .1 .0))
+duration-parts-new κ a k e = zeros-on-refusal (partsFrom (a .0) (a .1 .0))

@@ -18,7 +18,7 @@ use Rattle.plaitgate.specs.Tables.{leaves}
 use Rattle.plaitgate.proofs.leap_tables
 use Rattle.demands.specs.RefusalsLeave.{BytesKept}
 
--- bytes that are written where a test says so, and else left beside a number
+-- the bytes are written if the test holds; otherwise they keep their value and the number says why
 left-as-they-were : (test : Bool) (written : List ℕ) (j : ℕ) {k : ℕ} {left came : List ℕ}
     → leaves k left ≡ cond test (0, written) (j, came) → k ≢ 0 → left ≡ came
 left-as-they-were true written j p n = absurd (n (ap (λ (x : ℕ × List ℕ). x .0) p))

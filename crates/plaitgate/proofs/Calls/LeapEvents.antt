@@ -1,4 +1,4 @@
--- The call on leap-second events leaves one refusal number, and one value behind the reference that it writes, for each input.
+-- For each input the call on leap-second events leaves one refusal number and one written value.
 use denote.Ref.{now}
 use Rattle.refusals.proofs.OneAnswer.{OneAnswerAndEnd, both}
 use Rattle.plaitgate.proofs.leap_events.plaitgate_entry_of_event.Reads as entry-of-event-contract

@@ -87,7 +87,7 @@ fn from_lists(q: Question) -> Extension {
     }
 }
 
-// A table's length and last entry, beside a refusal's number.
+// A refusal's number with the table's length and last entry.
 fn afterwards(number: u32, table: LeapTable) -> Reply {
     match table.len() {
         LengthAnswer::Length(n) => last_of(number, n, table),

@@ -1,4 +1,4 @@
--- `entry_of_event` puts the offset beside the threshold.
+-- `entry_of_event` pairs the threshold with the offset.
 use mathlib.Core.Path.{_≡_, sym, ap, _∙_}
 use Prim.Native.Nat.{ℕ}
 use lib.IntN.{ℤ}

@@ -1,4 +1,4 @@
--- The year is no negative number, so its four digits are those of the number cast; and the mark behind them.
+-- The year is not negative, so the cast keeps its four digits; the mark follows them.
 use mathlib.Core.Path.{_≡_, sym, ap, subst, _∙_}
 use mathlib.Core.List.{List, [], _∷_}
 use Prim.Native.Nat.{ℕ, _+_, _<_, _^_}
