@@ -1,5 +1,5 @@
 -- Each call of this crate leaves one answer.
-use mathlib.Core.Path.{_≡_, sym, _∙_}
+use mathlib.Core.Path.{sym, _∙_}
 use Rattle.refusals.proofs.OneAnswer.{OneAnswer}
 use Rattle.refusals.proofs.Refusal.number.Reads as number
 

@@ -1,16 +1,16 @@
 -- The number of each refusal.
 use Prim.Native.Nat.{ℕ}
 use Rattle.refusals.specs.declared.Refusal.{Refusal}
-use Rattle.refusals.specs.declared.Refusal.the-variants.{Overflow, InvalidInput, NotStrictlyAscending, NonUnitIncrement, BufferFull, EmptyTable, OffsetOverflow, BadTable, OffsetRange, BadLine}
+use Rattle.refusals.specs.declared.Refusal.the-variants as refusal
 
 abbrev pub numberOf : Refusal → ℕ
-numberOf Overflow = 1
-numberOf InvalidInput = 2
-numberOf NotStrictlyAscending = 3
-numberOf NonUnitIncrement = 4
-numberOf BufferFull = 5
-numberOf EmptyTable = 6
-numberOf OffsetOverflow = 7
-numberOf BadTable = 8
-numberOf OffsetRange = 9
-numberOf BadLine = 10
+numberOf refusal.Overflow = 1
+numberOf refusal.InvalidInput = 2
+numberOf refusal.NotStrictlyAscending = 3
+numberOf refusal.NonUnitIncrement = 4
+numberOf refusal.BufferFull = 5
+numberOf refusal.EmptyTable = 6
+numberOf refusal.OffsetOverflow = 7
+numberOf refusal.BadTable = 8
+numberOf refusal.OffsetRange = 9
+numberOf refusal.BadLine = 10
