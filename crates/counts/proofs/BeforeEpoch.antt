@@ -3,7 +3,7 @@ use mathlib.Core.Path.{_≡_, refl, ap, _∙_}
 use Prim.Native.Nat.{ℕ, zero, suc, _+_, _-_, _*_, _≤_, _<_}
 use native.Mathlib.Omega.{arith}
 use lib.IntN.{ℤ, pos, negsuc, negℤ, _-ℤ_, _*ℤ_}
-use Rattle.refusals.specs.Outcome.{answered, refused}
+use Rattle.refusals.specs.Outcome.{refused}
 use Rattle.counts.specs.Exact.{countOf, stepOf}
 use Rattle.counts.specs.Units.{second}
 use Rattle.counts.specs.declared.sums.Step.the-variants.{Forward, Back}

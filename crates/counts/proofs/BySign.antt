@@ -1,6 +1,7 @@
--- A signed number turned round by the machine: one more than it, then 0 less that, then one more again. The least number has no other way.
-use mathlib.Core.Path.{_≡_, refl, sym, ap, _∙_}
-use mathlib.Core.Bool.{Bool, true, false}
+-- A signed number turned round by the machine: one more than it, then 0 less that, then one more again. The least
+-- number has no other way.
+use mathlib.Core.Path.{_≡_, refl, ap, _∙_}
+use mathlib.Core.Bool.{true, false}
 use Prim.Native.Nat.{ℕ, zero, suc, _+_, _<_, _^_}
 use native.Mathlib.Omega.{arith}
 use borrow.Author.Tests.{ltb-true}
@@ -47,7 +48,8 @@ pub record Turned (z : ℤ) : Type 0 where
   pub more-fits : Fits w64 (natAbs (read (over z)) + 1)
   pub gives : Back (natAbs (read (over z)) + 1) ≡ stepOf z
 
-turned-at : (k : ℕ) → SFits w64 (negsuc k) → over (negsuc k) ≡ pos k → read (over (negsuc k)) ≡ pos k → Turned (negsuc k)
+turned-at : (k : ℕ) → SFits w64 (negsuc k) → over (negsuc k) ≡ pos k → read (over (negsuc k)) ≡ pos k
+    → Turned (negsuc k)
 turned-at k f o r =
     record {
       up-fits = rw (up-is k f) (neg-fits k (f .sfits));

@@ -7,12 +7,12 @@ use Rattle.counts.proofs.sums.plus.Reads as plus-contract
 use Rattle.counts.proofs.sums.minus.Reads as minus-contract
 use Rattle.counts.proofs.sums.later.Reads as later-contract
 use Rattle.counts.proofs.sums.earlier.Reads as earlier-contract
-use Rattle.counts.proofs.sums.plus_to_limit.Reads as plus-to-limit-contract
-use Rattle.counts.proofs.sums.minus_to_limit.Reads as minus-to-limit-contract
-use Rattle.counts.proofs.sums.later_to_limit.Reads as later-to-limit-contract
-use Rattle.counts.proofs.sums.earlier_to_limit.Reads as earlier-to-limit-contract
+use Rattle.counts.proofs.sums.saturating_plus.Reads as plus-to-limit-contract
+use Rattle.counts.proofs.sums.saturating_minus.Reads as minus-to-limit-contract
+use Rattle.counts.proofs.sums.saturating_later.Reads as later-to-limit-contract
+use Rattle.counts.proofs.sums.saturating_earlier.Reads as earlier-to-limit-contract
 use Rattle.counts.proofs.sums.forward.Reads as forward-contract
-use Rattle.counts.proofs.sums.back_past.Reads as back-past-contract
+use Rattle.counts.proofs.sums.backward.Reads as back-past-contract
 use Rattle.counts.proofs.sums.elapsed.Reads as elapsed-contract
 use Rattle.counts.proofs.units.from_seconds_and.Reads as from-seconds-and-contract
 use Rattle.counts.proofs.units.from_seconds.Reads as from-seconds-contract
@@ -39,23 +39,23 @@ later κ a x y e f p q = viewed count-tells x y p q
 pub earlier : OneAnswer earlier-contract.Post
 earlier κ a x y e f p q = viewed count-tells x y p q
 
-pub plus-to-limit : OneAnswer plus-to-limit-contract.Post
-plus-to-limit κ a x y e f p q = p ∙ sym q
+pub saturating-plus : OneAnswer plus-to-limit-contract.Post
+saturating-plus κ a x y e f p q = p ∙ sym q
 
-pub minus-to-limit : OneAnswer minus-to-limit-contract.Post
-minus-to-limit κ a x y e f p q = p ∙ sym q
+pub saturating-minus : OneAnswer minus-to-limit-contract.Post
+saturating-minus κ a x y e f p q = p ∙ sym q
 
-pub later-to-limit : OneAnswer later-to-limit-contract.Post
-later-to-limit κ a x y e f p q = p ∙ sym q
+pub saturating-later : OneAnswer later-to-limit-contract.Post
+saturating-later κ a x y e f p q = p ∙ sym q
 
-pub earlier-to-limit : OneAnswer earlier-to-limit-contract.Post
-earlier-to-limit κ a x y e f p q = p ∙ sym q
+pub saturating-earlier : OneAnswer earlier-to-limit-contract.Post
+saturating-earlier κ a x y e f p q = p ∙ sym q
 
 pub forward : OneAnswer forward-contract.Post
 forward κ a x y e f p q = viewed duration-tells x y p q
 
-pub back-past : OneAnswer back-past-contract.Post
-back-past κ a x y e f p q = viewed duration-tells x y p q
+pub backward : OneAnswer back-past-contract.Post
+backward κ a x y e f p q = viewed duration-tells x y p q
 
 pub elapsed : OneAnswer elapsed-contract.Post
 elapsed κ a x y e f p q = viewed duration-tells x y p q

@@ -1,10 +1,11 @@
--- Laws of the difference of two naturals, `subℕ a b`. An exact integer is brought to this form, and then `omega` decides.
+-- Laws of the difference of two naturals, `subℕ a b`. An exact integer is brought to this form, and then `omega`
+-- decides.
 use mathlib.Core.Path.{_≡_, refl, sym, ap, _∙_}
-use Prim.Native.Nat.{ℕ, zero, suc, _+_, _-_, _*_, _≤_, _<_}
+use Prim.Native.Nat.{ℕ, zero, suc, _+_, _-_, _≤_, _<_}
 use native.Mathlib.Omega.{arith}
 use native.Mathlib.Decide.{decLt}
 use borrow.Author.Tests.{lt-ltb, le-ltb}
-use lib.IntN.{ℤ, pos, negsuc, negℤ, subℕ, _+ℤ_, _-ℤ_}
+use lib.IntN.{ℤ, pos, negsuc, subℕ, _+ℤ_, _-ℤ_}
 
 pub not-below : (a b : ℕ) → b ≤ a → subℕ a b ≡ pos (a - b)
 not-below a b h = simp (le-ltb a b h)

@@ -1,8 +1,7 @@
 -- Signed machine numbers by their bits: the machine reads `z` as `toZ w (ofZ w z)`, which is `z` where `z` fits.
 use mathlib.Core.Path.{_≡_, sym, ap, _∙_}
-use Prim.Native.Nat.{ℕ, _<_, _^_}
 use lib.Dec.{T, leb}
-use lib.IntN.{ℤ, pos}
+use lib.IntN.{ℤ}
 use mir.Syntax.{Width, w64}
 use mir.Val.{hbits, SFits, toZ, ofZ}
 use mir.Facts.{toZ-ofZ, sfits-widen}

@@ -28,7 +28,8 @@ partsOf n = record { seconds = n / second; nanos = n % second }
 abbrev pub partsFrom : ℕ → ℕ → Outcome DurationParts
 partsFrom s n = cond (leb second n) (refused 2) (answered (record { seconds = s; nanos = n }))
 
--- the count of `whole` units and the rest of one, a unit being `unit` seconds: 2 where the rest's seconds make a unit, 2 where its nanoseconds make a second, 1 where the sum is no count
+-- the count of `whole` units and the rest of one, a unit being `unit` seconds: 2 where the rest's seconds make a unit,
+-- 2 where its nanoseconds make a second, 1 where the sum is no count
 abbrev pub ofUnits : ℕ → ℕ → ℕ → ℕ → Outcome ℕ
 ofUnits unit whole s n =
     cond (leb unit s) (refused 2)

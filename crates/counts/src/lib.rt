@@ -1,5 +1,5 @@
 // Counts of nanoseconds and the durations between them: the arithmetic that all time scales share.
-// Exact results are wider than 64 bits, so each sum goes by the sign of what is added, in steps that are tested first.
+// Exact results are wider than 64 bits, so each sum goes by the sign of what is added, and each step is tested first.
 pub mod sums;
 pub mod units;
 pub mod unix;

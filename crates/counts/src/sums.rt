@@ -10,9 +10,9 @@ use crate::DurationAnswer;
 use crate::units::LARGEST_COUNT;
 use refusals::Refusal;
 
-const LARGEST_DURATION: u64 = 9_223_372_036_854_775_807;
+const LARGEST_DURATION: u64 = i64::MAX as u64;
 
-// A duration by its sign: so many nanoseconds forward, or so many back.
+// A duration by its sign: nanoseconds forward, or back.
 pub enum Step {
     Forward(u64),
     Back(u64),
@@ -23,7 +23,7 @@ pub fn by_sign(d: Duration) -> Step
 {
     let n = d.0;
     if n < 0 {
-        // the least number has no negation in 64 bits: one more than it has
+        // i64::MIN has no negation, so negate n + 1
         Step::Back((0 - (n + 1)) as u64 + 1)
     } else {
         Step::Forward(n as u64)
@@ -70,7 +70,7 @@ pub fn earlier(n: u64, d: Duration) -> CountAnswer
     }
 }
 
-pub fn plus_to_limit(n: u64, m: u64) -> u64
+pub fn saturating_plus(n: u64, m: u64) -> u64
     ensures { λ r. ⌜ r ≡ nearestCount (pos (n + m)) ⌝ }
 {
     if m <= LARGEST_COUNT - n {
@@ -80,29 +80,29 @@ pub fn plus_to_limit(n: u64, m: u64) -> u64
     }
 }
 
-pub fn minus_to_limit(n: u64, m: u64) -> u64
+pub fn saturating_minus(n: u64, m: u64) -> u64
     ensures { λ r. ⌜ r ≡ nearestCount (pos n -ℤ pos m) ⌝ }
 {
     if m <= n { n - m } else { 0 }
 }
 
-// The count a duration later, or the limit that lies before it.
-pub fn later_to_limit(n: u64, d: Duration) -> u64
+// The count a duration later, or the limit on the way.
+pub fn saturating_later(n: u64, d: Duration) -> u64
     ensures { λ r. ⌜ r ≡ nearestCount (pos n +ℤ d .0) ⌝ }
 {
     match by_sign(d) {
-        Step::Forward(m) => plus_to_limit(n, m),
-        Step::Back(m) => minus_to_limit(n, m),
+        Step::Forward(m) => saturating_plus(n, m),
+        Step::Back(m) => saturating_minus(n, m),
     }
 }
 
-// The count a duration earlier, or the limit that lies before it.
-pub fn earlier_to_limit(n: u64, d: Duration) -> u64
+// The count a duration earlier, or the limit on the way.
+pub fn saturating_earlier(n: u64, d: Duration) -> u64
     ensures { λ r. ⌜ r ≡ nearestCount (pos n -ℤ d .0) ⌝ }
 {
     match by_sign(d) {
-        Step::Forward(m) => minus_to_limit(n, m),
-        Step::Back(m) => plus_to_limit(n, m),
+        Step::Forward(m) => saturating_minus(n, m),
+        Step::Back(m) => saturating_plus(n, m),
     }
 }
 
@@ -117,8 +117,8 @@ pub fn forward(m: u64) -> DurationAnswer
     }
 }
 
-// The duration of m nanoseconds and one more, back.
-pub fn back_past(m: u64) -> DurationAnswer
+// The duration −(m + 1).
+pub fn backward(m: u64) -> DurationAnswer
     ensures { λ r. ⌜ durationIn r ≡ durationOf (negsuc m) ⌝ }
 {
     if m <= LARGEST_DURATION {
@@ -135,6 +135,6 @@ pub fn elapsed(end: u64, start: u64) -> DurationAnswer
     if start <= end {
         forward(end - start)
     } else {
-        back_past(start - end - 1)
+        backward(start - end - 1)
     }
 }

@@ -13,11 +13,11 @@ pub const NANOS_PER_SECOND: u64 = 1_000_000_000;
 // of 365 days
 pub const NANOS_PER_YEAR: u64 = 31_536_000 * NANOS_PER_SECOND;
 
-pub const LARGEST_COUNT: u64 = 18_446_744_073_709_551_615;
-// 2^64 ns are 18,446,744,073 s and some
+pub const LARGEST_COUNT: u64 = u64::MAX;
+// 2^64 ns are 18,446,744,073.7 s
 const LARGEST_SECONDS: u64 = 18_446_744_073;
 
-// Whole seconds and the nanoseconds beside them.
+// Whole seconds and the remaining nanoseconds.
 pub struct DurationParts {
     pub seconds: u64,
     pub nanos: u32,
@@ -29,7 +29,7 @@ pub enum PartsAnswer {
     Refused(Refusal),
 }
 
-// The count of whole seconds and nanoseconds beside them.
+// The count of whole seconds and further nanoseconds.
 pub fn from_seconds_and(seconds: u64, nanos: u64) -> CountAnswer
     ensures { λ r. ⌜ countIn r ≡ countOf (pos (seconds * second + nanos)) ⌝ }
 {
@@ -47,7 +47,7 @@ pub fn from_seconds(seconds: u64) -> CountAnswer
     from_seconds_and(seconds, 0)
 }
 
-// A count as whole seconds and the nanoseconds beside them.
+// A count as whole seconds and the remaining nanoseconds.
 pub fn parts(n: u64) -> DurationParts
     ensures { λ r. ⌜ r ≡ partsOf n ⌝ }
 {
@@ -70,7 +70,7 @@ impl DurationParts {
     }
 }
 
-// The count of so many whole units and the rest of one, a unit being so many seconds.
+// The count of `whole` units of `unit` seconds each, and the rest of one.
 pub fn of_units(unit_seconds: u32, whole: u32, rest: DurationParts) -> CountAnswer
     ensures { λ r. ⌜ countIn r ≡ ofUnits «unit_seconds» whole (rest .seconds) (rest .nanos) ⌝ }
 {

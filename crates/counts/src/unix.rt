@@ -18,7 +18,7 @@ pub const UTC_EPOCH_UNIX_OFFSET_S: u64 = 63_072_000;
 
 pub const UTC_EPOCH_UNIX_OFFSET_NS: u64 = UTC_EPOCH_UNIX_OFFSET_S * NANOS_PER_SECOND;
 
-const LARGEST_SIGNED: u64 = 9_223_372_036_854_775_807;
+const LARGEST_SIGNED: u64 = i64::MAX as u64;
 
 pub fn from_unix_seconds(seconds: i64) -> CountAnswer
     ensures { λ r. ⌜ countIn r ≡ countOf ((seconds -ℤ pos unixOffset) *ℤ pos second) ⌝ }
@@ -57,6 +57,6 @@ pub fn as_unix_nanos(count: u64) -> i64
     if count <= LARGEST_SIGNED - UTC_EPOCH_UNIX_OFFSET_NS {
         (count + UTC_EPOCH_UNIX_OFFSET_NS) as i64
     } else {
-        9_223_372_036_854_775_807
+        i64::MAX
     }
 }

@@ -1,4 +1,5 @@
--- `from_unix_nanos` meets its contract: a number below 0 lies before the UTC epoch, and of any other the offset is taken.
+-- `from_unix_nanos`: a number below 0 lies before the UTC epoch, and of any other the offset is
+-- taken.
 use mathlib.Core.Path.{_≡_, sym, ap, _∙_}
 use native.Mathlib.Omega.{arith}
 use borrow.Author.Needs.{needs}
@@ -14,18 +15,6 @@ use Rattle.counts.proofs.unix.from_unix_nanos.Tie as tie
 signed : (c : tie.After-by-sign) → c .by-sign .result ≡ stepOf (c .before .args .nanos)
 signed c = c .by-sign .ensures ∙ ap stepOf (toZ-ofZ (c .before .fits .nanos))
 
-by-sign-requires : tie.Need-by-sign-requires
-by-sign-requires c κs = search needs
-
-enum-known-n : tie.Need-enum-known-n
-enum-known-n c = search needs
-
-minus-requires : tie.Need-minus-requires
-minus-requires c κs = search needs
-
-enum-told : tie.Need-enum-told
-enum-told c = search needs
-
 returns : tie.Need-returns
 returns c =
     let arm = c .before .before in
@@ -40,4 +29,4 @@ returns-2 c =
 
 pub from-unix-nanos-spec : {M : Type 1} → statement M
 from-unix-nanos-spec =
-    tie.close (tie.spec by-sign-requires enum-known-n minus-requires enum-told returns returns-2)
+    tie.close (tie.spec (λ c κs. search needs) (λ c. search needs) (λ c κs. search needs) (λ c. search needs) returns returns-2)

@@ -1,4 +1,5 @@
--- `from_unix_seconds` meets its contract: a number below the offset lies before the UTC epoch, and of any other the offset is taken.
+-- `from_unix_seconds`: a number below the offset lies before the UTC epoch, and of any other the
+-- offset is taken.
 use mathlib.Core.Path.{_≡_, sym, ap, _∙_}
 use native.Mathlib.Omega.{arith}
 use borrow.Author.Needs.{needs}
@@ -12,18 +13,6 @@ use Rattle.counts.proofs.unix.from_unix_seconds.Tie as tie
 -- what the call of `by_sign` says of the number itself
 signed : (c : tie.After-by-sign) → c .by-sign .result ≡ stepOf (c .before .args .seconds)
 signed c = c .by-sign .ensures ∙ ap stepOf (toZ-ofZ (c .before .fits .seconds))
-
-by-sign-requires : tie.Need-by-sign-requires
-by-sign-requires c κs = search needs
-
-enum-known-s : tie.Need-enum-known-s
-enum-known-s c = search needs
-
-from-seconds-requires : tie.Need-from-seconds-requires
-from-seconds-requires c κs = search needs
-
-enum-told : tie.Need-enum-told
-enum-told c = search needs
 
 returns : tie.Need-returns
 returns c =
@@ -47,10 +36,10 @@ pub from-unix-seconds-spec : {M : Type 1} → statement M
 from-unix-seconds-spec =
     tie.close
     (tie.spec
-    by-sign-requires
-    enum-known-s
-    from-seconds-requires
-    enum-told
+    (λ c κs. search needs)
+    (λ c. search needs)
+    (λ c κs. search needs)
+    (λ c. search needs)
     returns
     returns-2
     returns-3)

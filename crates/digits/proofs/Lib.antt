@@ -1,5 +1,0 @@
-pub mod Stores
-pub mod Reading
-pub mod Writing
-pub mod WayBack
-pub mod Calls

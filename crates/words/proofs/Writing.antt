@@ -1,0 +1,121 @@
+-- Writing digits: fields that stand side by side, and the turns of the writers' loops.
+use mathlib.Core.Path.{_≡_, refl, sym, ap, _∙_}
+use mathlib.Core.List.{List, [], _∷_, _++_, append-nil, append-assoc}
+use Prim.Native.Nat.{ℕ, zero, suc, zero-le, _+_, _-_, _*_, _/_, _%_, _^_, _<_, _≤_}
+use native.Mathlib.Nat.{pow-suc, pow-succ', pow-le-pow-right, add-zero, zero-add, add-suc, suc-add, div-one, div-div-eq-div-mul}
+use native.Mathlib.Numerals.{add-one}
+use native.Mathlib.Omega.{arith}
+use borrow.Author.Tests.{lt-ltb, le-ltb}
+use lib.Arith.{mod-mul}
+use lib.Dec.{lit<}
+use lib.ListN.{length, length-append, set}
+use lib.Pow.{pow-add}
+use lib.Seq.{sets}
+use Rattle.words.specs.Decimal.{inDigits, placesUpTo}
+use Rattle.words.proofs.Stores.{sets-sets, sets-before}
+
+pub digits-length : (k n : ℕ) → length (inDigits k n) ≡ k
+digits-length zero n = refl
+digits-length (suc k) n =
+    length-append (inDigits k (n / 10)) ((48 + n % 10) ∷ []) ∙ ap (λ (j : ℕ). j + 1) (digits-length k (n / 10))
+    ∙ add-one k
+
+-- the digits of a number, cut after the first k
+pub cut : (j k n : ℕ) → inDigits (k + j) n ≡ inDigits k (n / 10 ^ j) ++ inDigits j n
+cut zero k n = rw (add-zero, div-one, append-nil)
+cut (suc j) k n =
+    rw add-suc
+    (ap (λ (l : List ℕ). l ++ ((48 + n % 10) ∷ [])) (cut j k (n / 10))
+    ∙ append-assoc (inDigits k (n / 10 / 10 ^ j)) (inDigits j (n / 10)) ((48 + n % 10) ∷ [])
+    ∙ ap (λ (m : ℕ). inDigits k m ++ inDigits (suc j) n) (div-div-eq-div-mul n 10 (10 ^ j) ∙ ap (λ (p : ℕ). n / p) (sym (pow-succ' 10 j))))
+
+-- the last j digits are those of the remainder
+pub of-remainder : (j n : ℕ) → inDigits j (n % 10 ^ j) ≡ inDigits j n
+of-remainder zero n = refl
+of-remainder (suc j) n =
+    let pos : 0 < 10 ^ j = omega (arith, pow-le-pow-right {n = 10} (lit< tt) {i = 0} {j = j} zero-le) in
+    let parts : n % 10 ^ suc j ≡ n / 10 % 10 ^ j * 10 + n % 10 = ap (λ (p : ℕ). n % p) (pow-suc 10 j) ∙ mod-mul n {m = 10 ^ j} {c = 10} pos (lit< tt) in
+    let high : n % 10 ^ suc j / 10 ≡ n / 10 % 10 ^ j = omega arith in
+    let low : n % 10 ^ suc j % 10 ≡ n % 10 = omega arith in
+    rw (high, low) (ap (λ (l : List ℕ). l ++ ((48 + n % 10) ∷ [])) (of-remainder j (n / 10)))
+
+-- two digits by themselves, four as two and two, nine as one and two fours
+module _ (out : List ℕ) (at n : ℕ) where
+  pub two-digits : n < 100 → set (set out at (48 + n / 10)) (at + 1) (48 + n % 10) ≡ sets out at (inDigits 2 n)
+  two-digits h =
+      let tens : n / 10 % 10 ≡ n / 10 = omega arith in
+      rw (add-one, tens)
+
+  pub four-digits : sets (sets out at (inDigits 2 (n / 100))) (at + 2) (inDigits 2 (n % 100)) ≡ sets out at (inDigits 4 n)
+  four-digits =
+      sets-sets (inDigits 2 (n / 100)) (inDigits 2 (n % 100)) out at
+      ∙ ap (λ (l : List ℕ). sets out at (inDigits 2 (n / 100) ++ l)) (of-remainder 2 n)
+      ∙ ap (sets out at) (sym (cut 2 2 n))
+
+  pub nine-digits : n < 1000000000
+      → sets (sets (set out at (48 + n / 100000000)) (at + 1) (inDigits 4 (n / 10000 % 10000))) (at + 5) (inDigits 4 (n % 10000)) ≡ sets out at (inDigits 9 n)
+  nine-digits h =
+      let start = set out at (48 + n / 100000000) in
+      let first : n / 10000 / 10000 % 10 ≡ n / 100000000 = omega arith in
+      let fours : inDigits 4 (n / 10000 % 10000) ++ inDigits 4 (n % 10000) ≡ inDigits 4 (n / 10000) ++ inDigits 4 n
+      = ap (λ (l : List ℕ). l ++ inDigits 4 (n % 10000)) (of-remainder 4 (n / 10000)) ∙ ap (λ (l : List ℕ). inDigits 4 (n / 10000) ++ l) (of-remainder 4 n) in
+      let all : inDigits 9 n ≡ (48 + n / 100000000) ∷ (inDigits 4 (n / 10000) ++ inDigits 4 n)
+      = cut 4 5 n ∙ ap (λ (l : List ℕ). l ++ inDigits 4 n) (cut 4 1 (n / 10000) ∙ ap (λ (d : ℕ). (48 + d) ∷ inDigits 4 (n / 10000)) first) in
+      ap (λ (p : ℕ). sets (sets start (at + 1) (inDigits 4 (n / 10000 % 10000))) p (inDigits 4 (n % 10000))) (omega arith)
+      ∙ sets-sets (inDigits 4 (n / 10000 % 10000)) (inDigits 4 (n % 10000)) start (at + 1)
+      ∙ ap (λ (p : ℕ). sets start p (inDigits 4 (n / 10000 % 10000) ++ inDigits 4 (n % 10000))) (add-one at)
+      ∙ ap (sets start (suc at)) fours ∙ ap (sets out at) (sym all)
+
+-- a turn of a writer from the end: k digits more stand before those that are written
+module _ (k : ℕ) (out : List ℕ) (at left width n : ℕ) (some : k ≤ left) (most : left ≤ width) where
+  wider : width - (left - k) ≡ k + (width - left)
+  wider = omega arith
+
+  pub some-more : sets (sets out (at + left) (inDigits (width - left) n)) (at + (left - k)) (inDigits k (n / 10 ^ (width - left)))
+      ≡ sets out (at + (left - k)) (inDigits (width - (left - k)) n)
+  some-more =
+      sets-before (inDigits k (n / 10 ^ (width - left))) (inDigits (width - left) n) out (at + (left - k)) (at + left) (omega (arith, digits-length k (n / 10 ^ (width - left))))
+      ∙ ap (sets out (at + (left - k))) (sym (ap (λ (j : ℕ). inDigits j n) wider ∙ cut (width - left) k n))
+
+  pub some-less : n / 10 ^ (width - left) / 10 ^ k ≡ n / 10 ^ (width - (left - k))
+  some-less =
+      div-div-eq-div-mul n (10 ^ (width - left)) (10 ^ k) ∙ ap (λ (p : ℕ). n / p) (sym (pow-add 10 (width - left) k))
+      ∙ ap (λ (j : ℕ). n / 10 ^ j) (omega arith)
+
+-- from 10 ^ j up to 10 ^ suc j a number has suc j places
+pub places-are : (j k n : ℕ) → 10 ^ j ≤ n → n < 10 ^ suc j → placesUpTo (j + suc k) n ≡ suc j
+unfolding placesUpTo
+places-are zero k n least most = rw (zero-add, lt-ltb n 10 (omega arith))
+places-are (suc j) k n least most =
+    let big : 10 ≤ n = omega (arith, pow-le-pow-right {n = 10} (lit< tt) {i = 1} {j = suc j} (omega arith)) in
+    rw (suc-add, le-ltb n 10 big) (ap suc (places-are j k (n / 10) (omega (arith, pow-suc 10 j)) (omega (arith, pow-suc 10 (suc j)))))
+
+-- a turn of `counted_places`: the rest has at most k digits
+never : {rest : ℕ} → 10 ≤ rest → rest < 1 → ⊥
+never h l = omega arith
+
+pub last-place : (k rest : ℕ) → 0 < k → rest < 10 → placesUpTo k rest ≡ 1
+unfolding placesUpTo
+last-place zero rest s h = absurd (none s)
+  where
+    none : 0 < 0 → ⊥
+    none s = omega arith
+last-place (suc f) rest s h = rw (lt-ltb rest 10 h)
+
+pub next-place : (k rest : ℕ) → rest < 10 ^ k → 10 ≤ rest → placesUpTo k rest ≡ suc (placesUpTo (k - 1) (rest / 10))
+unfolding placesUpTo
+next-place zero rest s h = absurd (never h s)
+next-place (suc f) rest s h =
+    let one-less : suc f - 1 ≡ f = omega arith in
+    rw (le-ltb rest 10 h, one-less)
+
+pub next-small : (k rest : ℕ) → rest < 10 ^ k → 10 ≤ rest → rest / 10 < 10 ^ (k - 1)
+next-small zero rest s h = absurd (never h s)
+next-small (suc f) rest s h =
+    let one-less : suc f - 1 ≡ f = omega arith in
+    rw one-less (omega (arith, pow-suc 10 f))
+
+pub another : (k rest : ℕ) → rest < 10 ^ k → 10 ≤ rest → 2 ≤ k
+another zero rest s h = absurd (never h s)
+another (suc zero) rest s h = omega arith
+another (suc (suc k)) rest s h = omega arith

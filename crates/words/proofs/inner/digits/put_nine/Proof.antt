@@ -1,0 +1,48 @@
+-- `put_nine`: a digit, four and four.
+use mathlib.Core.Path.{ap, _∙_}
+use mathlib.Core.List.{List}
+use Prim.Native.Nat.{ℕ, _+_, _%_}
+use native.Mathlib.Omega.{arith}
+use borrow.Author.Needs.{needs}
+use denote.Ref.{now}
+use lib.ListN.{length-set}
+use lib.Seq.{sets}
+use Rattle.words.specs.Decimal.{inDigits}
+use Rattle.words.proofs.Writing.{nine-digits}
+use Rattle.words.proofs.inner.digits.put_nine as call
+
+put-four-requires : call.Tie.Need-put-four-requires
+put-four-requires c κs = simp length-set (omega arith)
+
+put-four-requires-2 : call.Tie.Need-put-four-requires-2
+put-four-requires-2 c κs =
+    let kept = c .before .before .before .put-four .kept .0 in
+    omega (arith, simp length-set at kept)
+
+same-length : call.Tie.Need-same-length
+same-length c =
+    c .before .before .put-four2 .kept .0 ∙ c .before .before .before .before .before .before .put-four .kept .0
+    ∙ simp length-set
+
+returns : call.Tie.Need-returns
+returns c =
+    let second = c .before .before in
+    let first = second .before .before .before .before in
+    let a = first .before .before .before .args in
+    second .put-four2 .ensures
+    ∙ ap (λ (l : List ℕ). sets l (a .at + 5) (inDigits 4 (a .n % 10000))) (first .put-four .ensures)
+    ∙ nine-digits (now (a .out)) (a .at) (a .n) (omega arith)
+
+pub put-nine-spec : {M : Type 1} → call.Statement.statement M
+put-nine-spec =
+    call.Tie.close
+    (call.Tie.spec
+    (λ c. search needs)
+    (λ c. search needs)
+    (λ c. search needs)
+    (λ c. search needs)
+    put-four-requires
+    (λ c. search needs)
+    put-four-requires-2
+    same-length
+    returns)
