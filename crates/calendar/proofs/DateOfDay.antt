@@ -49,7 +49,8 @@ module _ (z n m k : ℕ) (low : 1 ≤ n) (from : 1 ≤ m) (to : m ≤ 12) (in-ye
       sums a b c e f g = omega arith
 
   fits : Dec (m ≡ 2) → day ≤ daysIn (leap (pos n)) m
-  fits (no two) = counts-to k (start m) _ _ (in-month .begun) (in-month .ahead) (month-length (leap (pos n)) m from to two)
+  fits (no two) =
+      counts-to k (start m) _ _ (in-month .begun) (in-month .ahead) (month-length (leap (pos n)) m from to two)
   fits (yes e) =
       counts-to k (start m) _ _ (in-month .begun) (in-february e)
       (sym (subst (λ (j : ℕ). start j + daysIn (leap (pos n)) j ≡ cond (leap (pos n)) 366 365) (sym e) (february (leap (pos n)))))

@@ -58,7 +58,8 @@ unfolding dateOf
 later-dates n zero h = absurd (omega arith)
 later-dates n (suc m) h = by-order (decLt n m) (later-dates n m)
   where
-    by-order : Dec (n < m) → (n < m → Before (dateOf (pos n)) (dateOf (pos m))) → Before (dateOf (pos n)) (dateOf (pos (suc m)))
+    by-order : Dec (n < m) → (n < m → Before (dateOf (pos n)) (dateOf (pos m)))
+        → Before (dateOf (pos n)) (dateOf (pos (suc m)))
     by-order (yes l) earlier = then (earlier l) (next-later (dateOf (pos m)) (real-date (pos m)))
     by-order (no g) earlier =
         let e : n ≡ m = omega (arith, g) in

@@ -70,7 +70,13 @@ module _ (d : Date) (r : Real d) where
   pub prev-real : Real (prev d)
   prev-real =
       before Real y m (d .day) r
-      (λ h. record { month-from = r .month-from; month-to = r .month-to; day-from = omega arith; day-to = omega (arith, r .day-to) })
+      (λ h. record {
+        month-from =
+            r .month-from;
+        month-to = r .month-to;
+        day-from = omega arith;
+        day-to = omega (arith, r .day-to);
+      })
       (λ h k. record {
         month-from = omega arith;
         month-to = omega (arith, r .month-to);

@@ -39,7 +39,8 @@ module _ (n : ℕ) (low : 1 ≤ n) where
       sums : (a b d k : ℕ) → 337 + d ≡ k → a ≡ b + k → a + (0 + 1) ≡ b + (337 + d) + 1
       sums a b d k e f = omega arith
 
-      by-leap : (l : Bool) → monthStart 11 + daysIn l 2 ≡ cond l 366 365 → daysInYears n ≡ daysInYears (n - 1) + cond l 366 365
+      by-leap : (l : Bool) → monthStart 11 + daysIn l 2 ≡ cond l 366 365
+          → daysInYears n ≡ daysInYears (n - 1) + cond l 366 365
           → dayNumber n 3 1 ≡ dayNumber n 2 (daysIn l 2) + 1
       by-leap l e f = sums (daysInYears n) (daysInYears (n - 1)) (daysIn l 2) (cond l 366 365) e f
 
@@ -56,7 +57,8 @@ module _ (n : ℕ) (low : 1 ≤ n) where
       sums a b c d e = omega arith
 
       by-month : Dec (m ≡ 2) → dayNumber n (m + 1) 1 ≡ dayNumber n m (daysIn (leap (pos n)) m) + 1
-      by-month (yes e) = subst (λ (k : ℕ). dayNumber n (k + 1) 1 ≡ dayNumber n k (daysIn (leap (pos n)) k) + 1) (sym e) march
+      by-month (yes e) =
+          subst (λ (k : ℕ). dayNumber n (k + 1) 1 ≡ dayNumber n k (daysIn (leap (pos n)) k) + 1) (sym e) march
       by-month (no two) =
           let s = same-side two (decLt m 2) in
           (λ i. daysInYears (s .0 i) + (monthStart (s .1 i) + 1))
@@ -129,7 +131,8 @@ day-zero d r h = λ i. on (year i) (first i) (day i)
         (in-year (leap (d .year)) (d .month) (d .day) (r .month-to) (r .day-to)) whole
 
     of-year : start (d .month) + d .day ≡ 307
-    of-year = rest (daysInYears march-year) (start (d .month) + d .day) (a .eras) (ap daysInYears year-is ∙ until-1969 (a .eras)) whole
+    of-year =
+        rest (daysInYears march-year) (start (d .month) + d .day) (a .eras) (ap daysInYears year-is ∙ until-1969 (a .eras)) whole
       where
         rest : (y k e : ℕ) → y ≡ 146097 * e + 719162 → y + k ≡ 146097 * e + 719469 → k ≡ 307
         rest y k e f g = omega arith

@@ -1,5 +1,5 @@
--- Every year is a natural year less so many eras of 400 years, and neither the calendar nor the formula tells eras apart.
--- So a day of any year is counted in naturals.
+-- Every year is a natural year less so many eras of 400 years, and neither the calendar nor the formula tells eras
+-- apart. So a day of any year is counted in naturals.
 use Prim.Native.Nat.{ℕ, zero, suc, _+_, _-_, _*_, _/_, _%_, _≤_, _<_}
 use mathlib.Core.Path.{_≡_, refl, ap, sym, _∙_}
 use mathlib.Core.Logic.{_⊎_, inl, inr}
@@ -25,7 +25,13 @@ pub record Above (y : ℤ) : Type 0 where
 
 pub above : (y : ℤ) → Above y
 above (pos a) =
-    record { years = a + 400; eras = 1; is = sym (not-below (a + 400) 400 (omega arith) ∙ ap pos (omega arith)); low = omega arith }
+    record {
+      years =
+          a + 400;
+      eras = 1;
+      is = sym (not-below (a + 400) 400 (omega arith) ∙ ap pos (omega arith));
+      low = omega arith;
+    }
 above (negsuc a) =
     record {
       years = 399 * suc a + 400;
@@ -93,7 +99,8 @@ module _ (n e : ℕ) where
           ∙ sym (below (n / 400) e (omega arith) ∙ ap negsuc (omega arith))
       by-order (no g) =
           let h : 400 * e ≤ n = omega (arith, g) in
-          ap era (not-below n (400 * e) h) ∙ era-onward (n - 400 * e) ∙ sym (not-below (n / 400) e (omega arith) ∙ ap pos (omega arith))
+          ap era (not-below n (400 * e) h) ∙ era-onward (n - 400 * e)
+          ∙ sym (not-below (n / 400) e (omega arith) ∙ ap pos (omega arith))
 
   same-yoe : yoe (subℕ n (400 * e)) ≡ pos (n % 400)
   unfolding yoe
@@ -125,15 +132,18 @@ module _ (n e : ℕ) where
           ap (λ (z : ℤ). z *ℤ pos 365 +ℤ quotZ z (pos 4) -ℤ quotZ z (pos 100)) same-yoe
           ∙ of-naturals of-era-year (n % 400 / 100)
 
-      sums : (y q r c k : ℕ) → y ≡ q + (r - c) → c ≤ r → q + (r + k) + (epochNumber e) ≡ y + k + (e * 146097 + (c + 1) + 719468)
+      sums : (y q r c k : ℕ) → y ≡ q + (r - c) → c ≤ r
+          → q + (r + k) + (epochNumber e) ≡ y + k + (e * 146097 + (c + 1) + 719468)
       sums y q r c k h l = omega arith
 
-  same-march : (b : Bool) → 1 ≤ n → cond b (subℕ n (400 * e)) (predℤ (subℕ n (400 * e))) ≡ subℕ (cond b n (n - 1)) (400 * e)
+  same-march : (b : Bool) → 1 ≤ n
+      → cond b (subℕ n (400 * e)) (predℤ (subℕ n (400 * e))) ≡ subℕ (cond b n (n - 1)) (400 * e)
   same-march true low = refl
   same-march false low = one-less n (400 * e) low
 
 -- the Unix day of any fields, counted in naturals
-pub counted : (y : ℤ) (m d n e : ℕ) → y ≡ subℕ n (400 * e) → 1 ≤ n → formula y m d ≡ subℕ (dayNumber n m d) (epochNumber e)
+pub counted : (y : ℤ) (m d n e : ℕ) → y ≡ subℕ n (400 * e) → 1 ≤ n
+    → formula y m d ≡ subℕ (dayNumber n m d) (epochNumber e)
 unfolding formula
 counted y m d n e is low =
     ap (λ (z : ℤ). era z *ℤ pos 146097 +ℤ doe z (fromMarch m) d -ℤ pos 719468) (ap (λ (z : ℤ). marchYear z m) is ∙ same-march n e (ltb 2 m) low)

@@ -58,7 +58,8 @@ module _ (a : ℕ) where
 pub at-most-366 : (a : ℕ) → daysInYears (suc a) ≤ daysInYears a + 366
 at-most-366 a = by-length (leap (pos (suc a))) (year-length a)
   where
-    by-length : (l : Bool) → daysInYears (suc a) ≡ daysInYears a + cond l 366 365 → daysInYears (suc a) ≤ daysInYears a + 366
+    by-length : (l : Bool) → daysInYears (suc a) ≡ daysInYears a + cond l 366 365
+        → daysInYears (suc a) ≤ daysInYears a + 366
     by-length true e = omega arith
     by-length false e = omega arith
 

@@ -1,4 +1,5 @@
--- The months of the calendar beside the formula's days before a month, by tests that are computed for each month, in a leap year or another.
+-- The months of the calendar and the formula's days before a month, by tests that are computed for each month, in a
+-- leap year or another.
 use Prim.Native.Nat.{ℕ, suc, _+_, _≤_}
 use mathlib.Core.Path.{_≡_, refl}
 use mathlib.Core.Logic.{_≢_, ⊎-elim}
@@ -55,7 +56,8 @@ tested-within true = tt
 tested-within false = tt
 
 pub in-year : (l : Bool) (m d : ℕ) → m ≤ 12 → d ≤ daysIn l m → start m + d ≤ 366
-in-year l m d to h = omega (arith, leb→le (start m + daysIn l m) 366 (at (within l) 13 (tested-within l) m (omega arith)))
+in-year l m d to h =
+    omega (arith, leb→le (start m + daysIn l m) 366 (at (within l) 13 (tested-within l) m (omega arith)))
 
 -- ---- the 307th day from 1 March on is 1 January, or nothing
 abbrev aside : Bool → ℕ → Bool
@@ -69,12 +71,12 @@ tested-aside false = tt
 pub january : (l : Bool) (m d : ℕ) → m ≤ 12 → 1 ≤ d → d ≤ daysIn l m → start m + d ≡ 307 → m ≡ 1
 january l m d to low high e =
     ⊎-elim (λ t. eqb→eq m 1 t)
-    (λ t. ⊎-elim (λ u. absurd (before (leb→le (start m + daysIn l m) 306 u))) (λ u. absurd (behind (leb→le 307 (start m) u)))
+    (λ t. ⊎-elim (λ u. absurd (before (leb→le (start m + daysIn l m) 306 u))) (λ u. absurd (past-end (leb→le 307 (start m) u)))
     (or-yes (leb (start m + daysIn l m) 306) (leb 307 (start m)) t))
     (or-yes (eqb m 1) (aside l m) (at (λ k. eqb k 1 || aside l k) 13 (tested-aside l) m (omega arith)))
   where
     before : start m + daysIn l m ≤ 306 → ⊥
     before h = omega arith
 
-    behind : 307 ≤ start m → ⊥
-    behind h = omega arith
+    past-end : 307 ≤ start m → ⊥
+    past-end h = omega arith

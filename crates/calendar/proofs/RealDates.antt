@@ -13,7 +13,8 @@ pub record Real (d : Date) : Type 0 where
   pub day-to : d .day ≤ monthLength (d .year) (d .month)
 
 abbrev pub isReal : Date → Bool
-isReal d = leb 1 (d .month) && (leb (d .month) 12 && (leb 1 (d .day) && leb (d .day) (monthLength (d .year) (d .month))))
+isReal d =
+    leb 1 (d .month) && (leb (d .month) 12 && (leb 1 (d .day) && leb (d .day) (monthLength (d .year) (d .month))))
 
 pub real : (d : Date) → T (isReal d) → Real d
 real d t =

@@ -1,5 +1,5 @@
--- The Gregorian calendar, day by day: the date after a date, the date before it, and so the date of each day, onward and back from 1970-01-01.
--- Years are integers; before year 1 comes year 0.
+-- The Gregorian calendar, day by day: the date after a date, the date before it, and so the date of each day, onward
+-- and back from 1970-01-01. Years are integers; before year 1 comes year 0.
 use mathlib.Core.Bool.{Bool, not, _&&_, _||_, cond}
 use mathlib.Core.List.{[], _∷_}
 use Prim.Native.Nat.{ℕ, zero, suc, _+_, _-_, _%_}

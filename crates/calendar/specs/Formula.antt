@@ -1,4 +1,5 @@
--- civil.rs's formula for the Unix day of any fields, line by line, over exact integers; its `/` drops the fraction (`quotZ`).
+-- civil.rs's formula for the Unix day of any fields, line by line, over exact integers; its `/` drops the fraction
+-- (`quotZ`).
 use mathlib.Core.Bool.{cond}
 use Prim.Native.Nat.{ℕ, _+_, _-_, _*_, _/_}
 use lib.Dec.{ltb}

@@ -32,7 +32,8 @@ const LIFT_ERAS: i64 = 5_368_710;
 
 const LIFT_YEARS: i64 = LIFT_ERAS * ERA_YEARS;
 
-// The day number of 1970-01-01 in lifted years, where 1 March of the first is day 1, as the days of a month count from 1.
+// The day number of 1970-01-01 in lifted years, where 1 March of the first is day 1, as the days of a month count from
+// 1.
 const LIFT_DAYS: i64 = LIFT_ERAS * ERA_DAYS + UNIX_EPOCH_DAY + 1;
 
 // A year that begins in March, and a day of it from 0 on.
@@ -47,7 +48,7 @@ struct MarchMonth {
     month: u64,
 }
 
-// A year counted from so many eras before year 0.
+// A year counted from `LIFT` eras before year 0.
 fn lifted(year: i32) -> u64
     ensures { λ r. ⌜ Lifted year r ⌝ }
 {
@@ -106,8 +107,8 @@ pub fn days_of_date(date: CivilDate) -> i64
     lowered(days_before_year(at.year) + days_before_month(at.month) + date.day as u64)
 }
 
-// The year that holds a day. Centuries, and years of a century, begin after whole quarters, rounded down to days; so the
-// last quarter of a day is in the century and the year that hold the day.
+// The year that holds a day. Centuries, and years of a century, begin after whole quarters, rounded down to days; so
+// the last quarter of a day is in the century and the year that hold the day.
 fn year_holding(day: u64) -> YearDay
     requires { ⌜ day < 2 ^ 33 ⌝ }
     ensures { λ r. ⌜ InYear day (r .year) (r .day) ⌝ }
@@ -121,7 +122,8 @@ fn year_holding(day: u64) -> YearDay
     }
 }
 
-// The month that holds a day of a year: 5 months in 153 days, with the same 2 over, so that each begins on its first day.
+// The month that holds a day of a year: 5 months in 153 days, with the same 2 over, so that each begins on its first
+// day.
 fn month_holding(day: u64) -> u64
     requires { ⌜ day < 366 ⌝ }
     ensures { λ r. ⌜ InMonth day r ⌝ }

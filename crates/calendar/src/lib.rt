@@ -1,5 +1,5 @@
-// Civil dates of the Gregorian calendar, the days between them, and the epochs of the time scales: epoch.rs, and the two
-// directions of civil.rs. Any field is taken; real dates follow the calendar, the rest the formula.
+// Civil dates of the Gregorian calendar, the days between them, and the epochs of the time scales: epoch.rs, and the
+// two directions of civil.rs. Any field is taken; real dates follow the calendar, the rest the formula.
 pub mod engine;
 pub mod epochs;
 
@@ -19,7 +19,7 @@ const SECONDS_PER_DAY: i64 = 86_400;
 const NANOS_PER_DAY: i64 = SECONDS_PER_DAY * NANOS_PER_SECOND as i64;
 
 // The year before which there is none of 32 bits.
-const LEAST_YEAR: i32 = -2_147_483_648;
+const LEAST_YEAR: i32 = i32::MIN;
 
 // The most days, onward and back, whose nanoseconds a signed 64-bit number holds: 2^63 / NANOS_PER_DAY is 106,751.99.
 const MOST_DAYS: i64 = 106_751;
@@ -33,7 +33,7 @@ pub struct CivilDate {
     pub day: u8,
 }
 
-// So many days, seconds or nanoseconds, or why there is no such number.
+// A number of days, seconds or nanoseconds, or why there is none.
 pub enum SpanAnswer {
     Span(i64),
     Refused(Refusal),

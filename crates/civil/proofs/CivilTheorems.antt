@@ -1,4 +1,5 @@
--- Counts and real fields come back as they went, the date of a count is the calendar's date of its day, and later counts have no earlier dates.
+-- Counts and real fields come back as they went, the date of a count is the calendar's date of its day, and later
+-- counts have no earlier dates.
 use mathlib.Core.Path.{_≡_, refl, sym, ap, _∙_}
 use mathlib.Core.Bool.{Bool, true, false, cond}
 use Prim.Native.Nat.{ℕ, _+_, _-_, _*_, _/_, _%_, _≤_, _<_, _^_}
@@ -39,7 +40,8 @@ pub record RealFields (c : CivilDateTime) : Type 0 where
 abbrev pub CountsComeBack : Type 0
 CountsComeBack = (n : ℕ) → n < 2 ^ 64 → countAt (fieldsOf n) ≡ answered n
 
--- which fields are real is told from both sides: those of every count are, and those that are come back from their count
+-- which fields are real is told from both sides: those of every count are, and those that are come back from their
+-- count
 abbrev pub FieldsOfCountsAreReal : Type 0
 FieldsOfCountsAreReal = (n : ℕ) → RealFields (fieldsOf n)
 
@@ -54,7 +56,8 @@ LaterCountsHaveNoEarlierDates = (n m : ℕ) → n ≤ m → NotAfter (dateIn (fi
 
 -- the count of a date that the calendar has goes by the calendar's day
 abbrev pub RealDatesGoByTheCalendar : Type 0
-RealDatesGoByTheCalendar = (c : CivilDateTime) (z : ℤ) → dateOf z ≡ dateIn c → countAt c ≡ onDay (z -ℤ pos utcEpochDay) (timeOf c)
+RealDatesGoByTheCalendar =
+    (c : CivilDateTime) (z : ℤ) → dateOf z ≡ dateIn c → countAt c ≡ onDay (z -ℤ pos utcEpochDay) (timeOf c)
 
 -- of the calls, by their contracts: `to_utc_nanos` answers n for what `from_utc_nanos` gives of n,
 -- and `from_utc_nanos` gives back real fields for which `to_utc_nanos` answers n
@@ -66,7 +69,8 @@ abbrev pub CallsBringFieldsBack : Type 0
 CallsBringFieldsBack =
     (c d : CivilDateTime) (n : ℕ) → RealFields c → countIn (Count n) ≡ countAt c → d ≡ fieldsOf n → d ≡ c
 
--- fields that no clock shows are counted all the same: 2023-02-31 is 2023-03-03, and 255 hours of 1972-01-01 are 918,000 s
+-- fields that no clock shows are counted all the same: 2023-02-31 is 2023-03-03, and 255 hours of 1972-01-01 are
+-- 918,000 s
 abbrev pub FebruaryThirtyFirst : Type 0
 FebruaryThirtyFirst = countAt (fields (pos 2023) 2 31 0 0 0 0) ≡ countAt (fields (pos 2023) 3 3 0 0 0 0)
 
@@ -91,7 +95,8 @@ whole n =
     sums (n / 1000000000 / 86400) (n / 1000000000 % 86400) _ (n / 1000000000) (n % 1000000000) (seconds-of-day (n / 1000000000))
     (omega arith) (omega arith)
   where
-    sums : (d r t s k : ℕ) → t ≡ r → d * 86400 + r ≡ s → s * 1000000000 + k ≡ n → d * 86400000000000 + (t * 1000000000 + k) ≡ n
+    sums : (d r t s k : ℕ) → t ≡ r → d * 86400 + r ≡ s → s * 1000000000 + k ≡ n
+        → d * 86400000000000 + (t * 1000000000 + k) ≡ n
     sums d r t s k e f g = omega arith
 
 pub count-back : CountsComeBack
@@ -184,13 +189,19 @@ fields-back f n r e =
         rest n s k e h = omega arith
 
     hour : n / 1000000000 % 86400 / 3600 ≡ f .hour
-    hour = ap (λ (s : ℕ). s % 86400 / 3600) whole-seconds ∙ back-hour (a .day) (f .hour) (f .minute) (f .second) few-hours few-minutes few-seconds
+    hour =
+        ap (λ (s : ℕ). s % 86400 / 3600) whole-seconds
+        ∙ back-hour (a .day) (f .hour) (f .minute) (f .second) few-hours few-minutes few-seconds
 
     minute : n / 1000000000 % 3600 / 60 ≡ f .minute
-    minute = ap (λ (s : ℕ). s % 3600 / 60) whole-seconds ∙ back-minute (a .day) (f .hour) (f .minute) (f .second) few-hours few-minutes few-seconds
+    minute =
+        ap (λ (s : ℕ). s % 3600 / 60) whole-seconds
+        ∙ back-minute (a .day) (f .hour) (f .minute) (f .second) few-hours few-minutes few-seconds
 
     second : n / 1000000000 % 60 ≡ f .second
-    second = ap (λ (s : ℕ). s % 60) whole-seconds ∙ back-second (a .day) (f .hour) (f .minute) (f .second) few-hours few-minutes few-seconds
+    second =
+        ap (λ (s : ℕ). s % 60) whole-seconds
+        ∙ back-second (a .day) (f .hour) (f .minute) (f .second) few-hours few-minutes few-seconds
 
     date : dateOf (pos (n / 1000000000 / 86400 + utcEpochDay)) ≡ dateIn f
     date =
@@ -206,7 +217,8 @@ date-of-count n = ap (λ (d : ℕ). dateOf (pos (d + utcEpochDay))) (days n)
     days n = omega arith
 
 pub later-counts : LaterCountsHaveNoEarlierDates
-later-counts n m h = no-earlier-dates (n / 1000000000 / 86400 + utcEpochDay) (m / 1000000000 / 86400 + utcEpochDay) (days n m h)
+later-counts n m h =
+    no-earlier-dates (n / 1000000000 / 86400 + utcEpochDay) (m / 1000000000 / 86400 + utcEpochDay) (days n m h)
   where
     days : (n m : ℕ) → n ≤ m → n / 1000000000 / 86400 + 730 ≤ m / 1000000000 / 86400 + 730
     days n m h = omega arith

@@ -9,31 +9,24 @@ use Rattle.calendar.specs.Answers.{dateIn}
 use Rattle.calendar.specs.Dates.{daysBetween}
 use Rattle.calendar.proofs.Lifting.{apart, days-fit}
 use borrow.Author.Needs.{needs}
-use Rattle.calendar.proofs.days_between.Statement.{statement}
-use Rattle.calendar.proofs.days_between.Tie as tie
+use Rattle.calendar.proofs.days_between as call
 
-days-of-date-requires : tie.Need-days-of-date-requires
-days-of-date-requires c κs = search needs
-
-days-of-date-requires-2 : tie.Need-days-of-date-requires-2
-days-of-date-requires-2 c κs = search needs
-
-read : (c : tie.After-days-of-date2)
+read : (c : call.Tie.After-days-of-date2)
     → toZ w64 (ofZ w64 (c .before .days-of-date .result)) -ℤ toZ w64 (ofZ w64 (c .days-of-date2 .result)) ≡ daysBetween (dateIn (c .before .before .args .from)) (dateIn (c .before .before .args .to))
 read c =
     λ i. (toZ-ofZ {w = w64} (record { sfits = c .before .days-of-date .ok }) ∙ c .before .days-of-date .ensures) i -ℤ
     (toZ-ofZ {w = w64} (record { sfits = c .days-of-date2 .ok }) ∙ c .days-of-date2 .ensures) i
 
-sub-result : tie.Need-sub-result
+sub-result : call.Tie.Need-sub-result
 sub-result c =
     let a = c .before .before .args in
     subst (SFits w64) (sym (read c)) (days-fit (apart (dateIn (a .from)) (dateIn (a .to))
     (record { year = omega arith; month = omega arith; day = omega arith })
     (record { year = omega arith; month = omega arith; day = omega arith })))
 
-returns : tie.Need-returns
+returns : call.Tie.Need-returns
 returns c = toZ-ofZ (sub-result c) ∙ read c
 
-pub days-between-spec : {M : Type 1} → statement M
+pub days-between-spec : {M : Type 1} → call.Statement.statement M
 days-between-spec =
-    tie.close (tie.spec days-of-date-requires days-of-date-requires-2 sub-result returns)
+    call.Tie.close (call.Tie.spec (λ c κs. search needs) (λ c κs. search needs) sub-result returns)

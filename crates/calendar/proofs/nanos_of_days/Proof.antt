@@ -8,13 +8,12 @@ use mir.Val.{SFits, toZ, ofZ}
 use mir.Facts.{toZ-ofZ}
 use Rattle.refusals.specs.Outcome.{answered}
 use Rattle.calendar.proofs.Nanoseconds.{too-far-back, too-far-on, Near, near}
-use Rattle.calendar.proofs.nanos_of_days.Statement.{statement}
-use Rattle.calendar.proofs.nanos_of_days.Tie as tie
+use Rattle.calendar.proofs.nanos_of_days as call
 
-read : (s : tie.Start) → toZ w64 (ofZ w64 (s .args .days)) ≡ s .args .days
+read : (s : call.Tie.Start) → toZ w64 (ofZ w64 (s .args .days)) ≡ s .args .days
 read s = toZ-ofZ (s .fits .days)
 
-module _ (c : tie.Else2) where
+module _ (c : call.Tie.Else2) where
   in-reach : Near (c .before .before .args .days)
   in-reach =
       near (c .before .before .args .days) (subst (λ (z : ℤ). ltZ z (negsuc 106750) ≡ false) (read (c .before .before))
@@ -23,17 +22,19 @@ module _ (c : tie.Else2) where
   fits : SFits w64 (toZ w64 (ofZ w64 (c .before .before .args .days)) *ℤ pos 86400000000000)
   fits = subst (λ (z : ℤ). SFits w64 (z *ℤ pos 86400000000000)) (sym (read (c .before .before))) (record { sfits = in-reach .fits })
 
-mul-t8 : tie.Need-mul-t8
+mul-t8 : call.Tie.Need-mul-t8
 mul-t8 c = fits c
 
-returns : tie.Need-returns
+returns : call.Tie.Need-returns
 returns c = too-far-back (c .before .args .days) (subst (λ (z : ℤ). ltZ z (negsuc 106750) ≡ true) (read (c .before)) (c .if1 .taken))
 
-returns-2 : tie.Need-returns-2
+returns-2 : call.Tie.Need-returns-2
 returns-2 c = too-far-on (c .before .before .args .days) (subst (λ (z : ℤ). ltZ (pos 106751) z ≡ true) (read (c .before .before)) (c .if2 .taken))
 
-returns-3 : tie.Need-returns-3
-returns-3 c = ap (λ (z : ℤ). answered z) (toZ-ofZ (fits c) ∙ ap (λ (z : ℤ). z *ℤ pos 86400000000000) (read (c .before .before))) ∙ in-reach c .is
+returns-3 : call.Tie.Need-returns-3
+returns-3 c =
+    ap (λ (z : ℤ). answered z) (toZ-ofZ (fits c) ∙ ap (λ (z : ℤ). z *ℤ pos 86400000000000) (read (c .before .before)))
+    ∙ in-reach c .is
 
-pub nanos-of-days-spec : {M : Type 1} → statement M
-nanos-of-days-spec = tie.close (tie.spec mul-t8 returns returns-2 returns-3)
+pub nanos-of-days-spec : {M : Type 1} → call.Statement.statement M
+nanos-of-days-spec = call.Tie.close (call.Tie.spec mul-t8 returns returns-2 returns-3)

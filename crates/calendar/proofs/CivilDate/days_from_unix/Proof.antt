@@ -8,26 +8,19 @@ use Rattle.refusals.specs.Outcome.{answered, refused}
 use Rattle.calendar.specs.Answers.{dateIn}
 use Rattle.calendar.specs.Formula.{dayOf}
 use borrow.Author.Needs.{needs}
-use Rattle.calendar.proofs.CivilDate.days_from_unix.Statement.{statement}
-use Rattle.calendar.proofs.CivilDate.days_from_unix.Tie as tie
+use Rattle.calendar.proofs.CivilDate.days_from_unix as call
 
-too-early-requires : tie.Need-too-early-requires
-too-early-requires c κs = search needs
-
-days-of-date-requires : tie.Need-days-of-date-requires
-days-of-date-requires c κs = search needs
-
-returns : tie.Need-returns
+returns : call.Tie.Need-returns
 returns c =
     sym (ap (λ (t : Bool). cond t (refused 1) (answered (dayOf (dateIn (c .before .before .args .self)))))
     (sym (c .before .too-early .ensures) ∙ c .if1 .taken))
 
-returns-2 : tie.Need-returns-2
+returns-2 : call.Tie.Need-returns-2
 returns-2 c =
     ap (λ (z : ℤ). answered z) (toZ-ofZ {w = w64} (record { sfits = c .days-of-date .ok }) ∙ c .days-of-date .ensures)
     ∙ sym (ap (λ (t : Bool). cond t (refused 1) (answered (dayOf (dateIn (c .before .before .before .args .self)))))
     (sym (c .before .before .too-early .ensures) ∙ c .before .if1 .left))
 
-pub days-from-unix-spec : {M : Type 1} → statement M
+pub days-from-unix-spec : {M : Type 1} → call.Statement.statement M
 days-from-unix-spec =
-    tie.close (tie.spec too-early-requires days-of-date-requires returns returns-2)
+    call.Tie.close (call.Tie.spec (λ c κs. search needs) (λ c κs. search needs) returns returns-2)

@@ -11,17 +11,10 @@ use Rattle.calendar.specs.Dates.{daysBetween}
 use Rattle.calendar.proofs.Lifting.{Apart, apart, days-fit, seconds-fit}
 use Rattle.calendar.proofs.TooEarly.{Given, given, refuses}
 use borrow.Author.Needs.{needs}
-use Rattle.calendar.proofs.CivilDate.seconds_until.Statement.{statement}
-use Rattle.calendar.proofs.CivilDate.seconds_until.Tie as tie
+use Rattle.calendar.proofs.CivilDate.seconds_until as call
 
-days-until-requires : tie.Need-days-until-requires
-days-until-requires c κs = search needs
-
-enum-known-days : tie.Need-enum-known-days
-enum-known-days c = search needs
-
-module _ (c : tie.After-known-told) where
-  abbrev start : tie.Start
+module _ (c : call.Tie.After-known-told) where
+  abbrev start : call.Tie.Start
   start = c .before .before .before .before
 
   spans : Given (dateIn (start .args .self)) (dateIn (start .args .other)) (c .before .days .given .0 .0)
@@ -35,25 +28,23 @@ module _ (c : tie.After-known-told) where
 
   read : toZ w64 (ofZ w64 (c .before .days .given .0 .0)) *ℤ pos 86400 ≡ daysBetween (dateIn (start .args .self))
       (dateIn (start .args .other)) *ℤ pos 86400
-  read = ap (λ (z : ℤ). z *ℤ pos 86400) (toZ-ofZ {w = w64} (subst (SFits w64) (sym (spans .days)) (days-fit between)) ∙ spans .days)
+  read =
+      ap (λ (z : ℤ). z *ℤ pos 86400) (toZ-ofZ {w = w64} (subst (SFits w64) (sym (spans .days)) (days-fit between)) ∙ spans .days)
 
   fits : SFits w64 (toZ w64 (ofZ w64 (c .before .days .given .0 .0)) *ℤ pos 86400)
   fits = subst (SFits w64) (sym read) (seconds-fit between)
 
-mul-t7 : tie.Need-mul-t7
+mul-t7 : call.Tie.Need-mul-t7
 mul-t7 c = fits c
 
-enum-known-r : tie.Need-enum-known-r
-enum-known-r c = search needs
-
-returns : tie.Need-returns
+returns : call.Tie.Need-returns
 returns c = ap (λ (z : ℤ). answered z) (toZ-ofZ (fits c) ∙ read c) ∙ spans c .gives _
 
-returns-2 : tie.Need-returns-2
+returns-2 : call.Tie.Need-returns-2
 returns-2 c =
     let s = c .before .before .before in
     refuses (dateIn (s .before .args .self)) (dateIn (s .before .args .other)) _ (ap spanIn (sym (c .before .r .given .1)) ∙ s .days-until .ensures) _
 
-pub seconds-until-spec : {M : Type 1} → statement M
+pub seconds-until-spec : {M : Type 1} → call.Statement.statement M
 seconds-until-spec =
-    tie.close (tie.spec days-until-requires enum-known-days mul-t7 enum-known-r returns returns-2)
+    call.Tie.close (call.Tie.spec (λ c κs. search needs) (λ c. search needs) mul-t7 (λ c. search needs) returns returns-2)

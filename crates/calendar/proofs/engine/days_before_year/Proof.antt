@@ -5,17 +5,7 @@ use native.Mathlib.Omega.{arith}
 use borrow.Author.Needs.{needs}
 use Rattle.calendar.specs.March.{daysInYears}
 use Rattle.calendar.proofs.MarchYears.{hundreds-fewer}
-use Rattle.calendar.proofs.engine.days_before_year.Statement.{statement}
-use Rattle.calendar.proofs.engine.days_before_year.Tie as tie
-
-mul-result : tie.Need-mul-result
-mul-result c = search needs
-
-sub-result : tie.Need-sub-result
-sub-result c = search needs
-
-add-result : tie.Need-add-result
-add-result c = search needs
+use Rattle.calendar.proofs.engine.days_before_year as call
 
 by-quarters : (y : ℕ) → y * 1461 / 4 - y / 100 + y / 100 / 4 ≡ daysInYears y
 by-quarters y = sums (y / 4) (y / 100) (y / 400) _ _ quarters eras (hundreds-fewer y)
@@ -29,8 +19,9 @@ by-quarters y = sums (y / 4) (y / 100) (y / 400) _ _ quarters eras (hundreds-few
     sums : (a b c q e : ℕ) → q ≡ 365 * y + a → e ≡ c → b ≤ a → q - b + e ≡ 365 * y + a + c - b
     sums a b c q e h k l = omega arith
 
-returns : tie.Need-returns
+returns : call.Tie.Need-returns
 returns c = by-quarters (c .args .year)
 
-pub days-before-year-spec : {M : Type 1} → statement M
-days-before-year-spec = tie.close (tie.spec mul-result sub-result add-result returns)
+pub days-before-year-spec : {M : Type 1} → call.Statement.statement M
+days-before-year-spec =
+    call.Tie.close (call.Tie.spec (λ c. search needs) (λ c. search needs) (λ c. search needs) returns)

@@ -9,37 +9,9 @@ use Rattle.calendar.specs.Formula.{monthStart}
 use Rattle.calendar.specs.March.{daysInYears, Lifted}
 use Rattle.calendar.proofs.Eras.{of-lifted}
 use borrow.Author.Needs.{needs}
-use Rattle.calendar.proofs.engine.days_of_date.Statement.{statement}
-use Rattle.calendar.proofs.engine.days_of_date.Tie as tie
+use Rattle.calendar.proofs.engine.days_of_date as call
 
-lifted-requires : tie.Need-lifted-requires
-lifted-requires c κs = search needs
-
-cast-from-march : tie.Need-cast-from-march
-cast-from-march c = search needs
-
-from-march-requires : tie.Need-from-march-requires
-from-march-requires c κs = search needs
-
-days-before-year-requires : tie.Need-days-before-year-requires
-days-before-year-requires c κs = search needs
-
-days-before-month-requires : tie.Need-days-before-month-requires
-days-before-month-requires c κs = search needs
-
-add-lowered : tie.Need-add-lowered
-add-lowered c = search needs
-
-cast-lowered : tie.Need-cast-lowered
-cast-lowered c = search needs
-
-add-lowered-2 : tie.Need-add-lowered-2
-add-lowered-2 c = search needs
-
-lowered-requires : tie.Need-lowered-requires
-lowered-requires c κs = search needs
-
-returns : tie.Need-returns
+returns : call.Tie.Need-returns
 returns c =
     let month = c .before .before in
     let march = month .before .before in
@@ -53,17 +25,17 @@ returns c =
     (month .before .days-before-year .ensures ∙ ap daysInYears (march .from-march .ensures .year-is))
     (month .days-before-month .ensures ∙ ap monthStart (march .from-march .ensures .month-is))
 
-pub days-of-date-spec : {M : Type 1} → statement M
+pub days-of-date-spec : {M : Type 1} → call.Statement.statement M
 days-of-date-spec =
-    tie.close
-    (tie.spec
-    lifted-requires
-    cast-from-march
-    from-march-requires
-    days-before-year-requires
-    days-before-month-requires
-    add-lowered
-    cast-lowered
-    add-lowered-2
-    lowered-requires
+    call.Tie.close
+    (call.Tie.spec
+    (λ c κs. search needs)
+    (λ c. search needs)
+    (λ c κs. search needs)
+    (λ c κs. search needs)
+    (λ c κs. search needs)
+    (λ c. search needs)
+    (λ c. search needs)
+    (λ c. search needs)
+    (λ c κs. search needs)
     returns)

@@ -10,10 +10,9 @@ use mir.Facts.{toZ-ofZ}
 use Rattle.counts.proofs.Signed.{widens, widened}
 use Rattle.calendar.specs.March.{Lifted}
 use Rattle.calendar.proofs.Lifting.{Raised, raised}
-use Rattle.calendar.proofs.engine.lifted.Statement.{statement}
-use Rattle.calendar.proofs.engine.lifted.Tie as tie
+use Rattle.calendar.proofs.engine.lifted as call
 
-module _ (c : tie.Start) where
+module _ (c : call.Tie.Start) where
   up : Raised (c .args .year)
   up = raised (c .args .year) (c .fits .year .sfits)
 
@@ -29,18 +28,24 @@ module _ (c : tie.Start) where
   read : toZ w64 (ofZ w64 added) ≡ pos (up .by)
   read = toZ-ofZ fits ∙ sum
 
-cast-result : tie.Need-cast-result
+cast-result : call.Tie.Need-cast-result
 cast-result c = widens tt (c .fits .year)
 
-add-result : tie.Need-add-result
+add-result : call.Tie.Need-add-result
 add-result c = fits c
 
-cast-result-2 : tie.Need-cast-result-2
+cast-result-2 : call.Tie.Need-cast-result-2
 cast-result-2 c =
-    subst (λ (z : ℤ). T (nonNeg z) × Fits w64 (natAbs z)) (sym (read c)) (tt, record { fits = omega (arith, up c .lifted .high) })
+    subst (λ (z : ℤ). T (nonNeg z) × Fits w64 (natAbs z)) (sym (read c)) (
+      tt,
+      record {
+        fits =
+            omega (arith, up c .lifted .high);
+      },
+    )
 
-returns : tie.Need-returns
+returns : call.Tie.Need-returns
 returns c = subst (λ (z : ℤ). Lifted (c .args .year) (natAbs z)) (sym (read c)) (up c .lifted)
 
-pub lifted-spec : {M : Type 1} → statement M
-lifted-spec = tie.close (tie.spec cast-result add-result cast-result-2 returns)
+pub lifted-spec : {M : Type 1} → call.Statement.statement M
+lifted-spec = call.Tie.close (call.Tie.spec cast-result add-result cast-result-2 returns)

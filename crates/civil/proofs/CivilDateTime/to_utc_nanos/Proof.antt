@@ -10,29 +10,20 @@ use Rattle.calendar.specs.Formula.{dayOf}
 use Rattle.calendar.specs.Dates.{utcEpochDay}
 use Rattle.civil.specs.Fields.{onDay}
 use borrow.Author.Needs.{needs}
-use Rattle.civil.proofs.CivilDateTime.to_utc_nanos.Statement.{statement}
-use Rattle.civil.proofs.CivilDateTime.to_utc_nanos.Tie as tie
+use Rattle.civil.proofs.CivilDateTime.to_utc_nanos as call
 
-days-of-date-requires : tie.Need-days-of-date-requires
-days-of-date-requires c κs = search needs
-
-time-of-day-requires : tie.Need-time-of-day-requires
-time-of-day-requires c κs = search needs
-
-count-on-day-requires : tie.Need-count-on-day-requires
-count-on-day-requires c κs = search needs
-
-returns : tie.Need-returns
+returns : call.Tie.Need-returns
 returns c =
     let d = c .before .before .days-of-date in
     let self = c .before .before .before .before .args .self in
     let fits : SFits w32 (self .year) = record { sfits = omega arith } in
     let day : toZ w64 (ofZ w64 (d .result)) ≡ dayOf (on (self .year) (self .month) (self .day)) =
-    toZ-ofZ {w = w64} (record { sfits = d .ok }) ∙ d .ensures ∙ ap (λ (y : ℤ). dayOf (on y (self .month) (self .day))) (toZ-ofZ fits)
+    toZ-ofZ {w =
+    w64} (record { sfits = d .ok }) ∙ d .ensures ∙ ap (λ (y : ℤ). dayOf (on y (self .month) (self .day))) (toZ-ofZ fits)
     in
     c .count-on-day .ensures
     ∙ (λ i. onDay (day i -ℤ pos utcEpochDay) (c .before .time-of-day .ensures i))
 
-pub to-utc-nanos-spec : {M : Type 1} → statement M
+pub to-utc-nanos-spec : {M : Type 1} → call.Statement.statement M
 to-utc-nanos-spec =
-    tie.close (tie.spec days-of-date-requires time-of-day-requires count-on-day-requires returns)
+    call.Tie.close (call.Tie.spec (λ c κs. search needs) (λ c κs. search needs) (λ c κs. search needs) returns)
