@@ -5,19 +5,20 @@ use Prim.Native.Nat.{ℕ, _≤_}
 use borrow.Author.Tests.{le-leb, le-ltb}
 use lib.ListN.{length}
 use Rattle.refusals.specs.Outcome.{Outcome, answered}
-use Rattle.tables.specs.Answers.{takenIn, extensionIn, offsetIn}
+use Rattle.tables.specs.Answers.{takenIn, tableAnswerIn, offsetIn}
 use Rattle.tables.specs.Entries.{Entry, offsetAt, checking}
 use Rattle.tables.specs.Slots.{entriesOf, ofValid, extended, built}
 use Rattle.tables.specs.declared.LeapEntry.{LeapEntry}
 use Rattle.tables.specs.declared.LeapTable.{LeapTable}
-use Rattle.tables.specs.declared.Extension.{Extension}
+use Rattle.tables.specs.declared.TableAnswer.{TableAnswer}
 use Rattle.tables.specs.declared.OffsetAnswer.{OffsetAnswer}
 use Rattle.tables.specs.declared.Taken.{Taken}
 use Rattle.tables.proofs.Buildings.{Builds, building-builds}
 use Rattle.tables.proofs.Tells.{taken-tells, offset-tells}
 use Rattle.lent.specs.Lists.{ofValidList}
 
--- a table's own entries, lent as a list, are refused 8 exactly where the table is: what is answered of the one is answered of the other
+-- a table's own entries, lent as a list, are refused 8 exactly where the table is: what is answered of the one is
+-- answered of the other
 abbrev pub RefusedAlike : Type 1
 RefusedAlike = (A : Type 0) (t : LeapTable) (a : Outcome A) → t .len ≤ 64 → ofValidList (entriesOf t) a ≡ ofValid t a
 
@@ -46,14 +47,14 @@ CheckedBuilds = (es : List Entry) → length es ≤ 64 → checking es ≡ 0 →
 -- and answers that meet the contracts of the check and of building are the same
 abbrev pub JudgedAlike : Type 0
 JudgedAlike =
-    (es : List Entry) (checked : Taken) (x : Extension) → length es ≤ 64
-    → takenIn checked ≡ checking es → extensionIn x ≡ built es → checked ≡ x .answer
+    (es : List Entry) (checked : Taken) (x : TableAnswer) → length es ≤ 64
+    → takenIn checked ≡ checking es → tableAnswerIn x ≡ built es → checked ≡ x .answer
 
 -- an extension in place gives the answer of the extension by value, and leaves its table
 abbrev pub ExtendedAlike : Type 0
 ExtendedAlike =
-    (t : LeapTable) (e : LeapEntry) (lent : Taken) (after : LeapTable) (by-value : Extension)
-    → (takenIn lent, after) ≡ extended t e → extensionIn by-value ≡ extended t e
+    (t : LeapTable) (e : LeapEntry) (lent : Taken) (after : LeapTable) (by-value : TableAnswer)
+    → (takenIn lent, after) ≡ extended t e → tableAnswerIn by-value ≡ extended t e
     → (lent ≡ by-value .answer) × (after ≡ by-value .table)
 
 pub refused-alike : RefusedAlike
@@ -72,7 +73,8 @@ pub checked-builds : CheckedBuilds
 checked-builds es few z = building-builds es (sym (checked-alike es few) ∙ z)
 
 pub judged-alike : JudgedAlike
-judged-alike es checked x few p q = taken-tells checked (x .answer) (p ∙ checked-alike es few ∙ sym (ap (λ (v : ℕ × LeapTable). v .0) q))
+judged-alike es checked x few p q =
+    taken-tells checked (x .answer) (p ∙ checked-alike es few ∙ sym (ap (λ (v : ℕ × LeapTable). v .0) q))
 
 pub extended-alike : ExtendedAlike
 extended-alike t e lent after by-value p q =

@@ -3,13 +3,13 @@ use mathlib.Core.Path.{_≡_, ap, _∙_}
 use mathlib.Core.Bool.{true, false}
 use borrow.Author.Tests.{ne-eqb}
 use lib.Dec.{eqb}
+use Rattle.refusals.proofs.Tells.{number-not-zero}
 use Rattle.refusals.specs.Outcome.{Outcome, refused}
 use Rattle.refusals.specs.declared.Refusal.{Refusal}
 use Rattle.tables.specs.Answers.{takenIn}
 use Rattle.tables.specs.Entries.{Entry, stepRefusal}
 use Rattle.tables.specs.declared.Taken.{Taken}
 use Rattle.tables.specs.declared.Taken.the-variants as taken
-use Rattle.tables.proofs.RefusalNumbers.{number-not-zero}
 use Rattle.lent.specs.Pass.{judged, ofTaken}
 
 module _ (t : Taken) where
@@ -28,5 +28,6 @@ module _ (t : Taken) where
   pub judged-on : (p n : Entry) → t ≡ taken.Done → stepRefusal p n ≡ judged (takenIn t) p n
   judged-on p n e = rw (none e)
 
-  pub judged-already : (p n : Entry) (why : Refusal) → t ≡ taken.Refused why → takenIn (taken.Refused why) ≡ judged (takenIn t) p n
+  pub judged-already : (p n : Entry) (why : Refusal) → t ≡ taken.Refused why
+      → takenIn (taken.Refused why) ≡ judged (takenIn t) p n
   judged-already p n why e = rw (one why e, e)

@@ -1,4 +1,5 @@
--- An extension in place grows the referenced table or keeps it, as the one by value does: both contracts cite one definition.
+-- An extension in place grows the referenced table or keeps it, as the one by value does: both contracts cite one
+-- definition.
 use contract.Monad.{fact-mono}
 use Rattle.tables.proofs.Extensions.{Extends, extends}
 use Rattle.lent.proofs.Stated.{Implies}

@@ -25,7 +25,8 @@ use Rattle.tables.proofs.LeapTable as T
 use Rattle.tables.proofs.LeapTable.Laws as T′
 use Rattle.lent.proofs.Values.{tv}
 
-pub table-in : {M : Type 1} (𝓤 : URA M) (H : Heap 𝓤) (A : Atoms 𝓤) (W : Given 𝓤 H A) (h : LeapTable) (b o : ℕ) → Is T.the-row h (tv h ∷ []) → ent 𝓤 (H .at fullShare T′.mir b o (tv h)) (sem 𝓤 H A (mem T.the-row .lies h b o))
+pub table-in : {M : Type 1} (𝓤 : URA M) (H : Heap 𝓤) (A : Atoms 𝓤) (W : Given 𝓤 H A) (h : LeapTable) (b o : ℕ)
+    → Is T.the-row h (tv h ∷ []) → ent 𝓤 (H .at fullShare T′.mir b o (tv h)) (sem 𝓤 H A (mem T.the-row .lies h b o))
 unfolding partOf
 table-in 𝓤 H A W h b o g =
     qed W (‵ (fat fullShare T′.mir b o (tv h)) ∷ []) ∵ use1 W (‵ (cellAt fullShare (T.the-row .mir) (tv h ∷ []) b o)) (W .laws .at-raw fullShare T′.mir b o (tv h)) $
@@ -33,7 +34,8 @@ table-in 𝓤 H A W h b o g =
     fpack ! (List Val) (λ us. fsep (cellAt fullShare (T.the-row .mir) us b o) (T.the-row .own h us)) (tv h ∷ []) $ done !
 
 pub table-out : {M : Type 1} {𝓤 : URA M} {H : Heap 𝓤} {A : Atoms 𝓤} {K : Type 0} {W : Given 𝓤 H A} {Γ : List (Item 𝓤)} {G : Goal 𝓤 H} → K → (h : LeapTable) (b o : ℕ)
-    → (Is T.the-row h (tv h ∷ []) → Seq K W (‵ (fat fullShare T′.mir b o (tv h)) ∷ Γ) G) → Seq K W (‵ (mem T.the-row .lies h b o) ∷ Γ) G
+    → (Is T.the-row h (tv h ∷ []) → Seq K W (‵ (fat fullShare T′.mir b o (tv h)) ∷ Γ) G)
+    → Seq K W (‵ (mem T.the-row .lies h b o) ∷ Γ) G
 unfolding partOf
 table-out {𝓤 = 𝓤} {H = H} {A = A} {W = W} t h b o k =
     fpick t (λ vs. fsplit t $ spelt t T.the-row (Is T.the-row) (shows 𝓤 H A T.the-row) (LL.vals T.the-type T′.the-laws) (LL.tells T.the-type T′.the-laws) fullShare h vs b o $
@@ -57,7 +59,8 @@ array-in 𝓤 H A W n es b o g =
     fpack ! (List Val) (λ us. fsep (cellAt fullShare (Entries n .mir) us b o) (Entries n .own es us)) (av es ∷ []) $ done !
 
 pub array-out : {M : Type 1} {𝓤 : URA M} {H : Heap 𝓤} {A : Atoms 𝓤} {K : Type 0} {W : Given 𝓤 H A} {Γ : List (Item 𝓤)} {G : Goal 𝓤 H} → K → (n : ℕ) (es : List LeapEntry) (b o : ℕ)
-    → Seq K W (‵ (fat fullShare (tyArray E′.mir n) b o (av es)) ∷ Γ) G → Seq K W (‵ (partAt (Entries n) fullShare es b o) ∷ Γ) G
+    → Seq K W (‵ (fat fullShare (tyArray E′.mir n) b o (av es)) ∷ Γ) G
+    → Seq K W (‵ (partAt (Entries n) fullShare es b o) ∷ Γ) G
 unfolding partOf
 array-out {𝓤 = 𝓤} {H = H} {A = A} {W = W} t n es b o k =
     fpick t (λ vs. fsplit t $ spelt t (Entries n) (Is (Entries n)) (shows 𝓤 H A (Entries n)) avs (array-tells E.the-row (LL.vals E.the-type E′.the-laws) (LL.tells E.the-type E′.the-laws) n) fullShare es vs b o $

@@ -49,5 +49,7 @@ module _ {M : Type 1} {𝓤 : URA M} {H : Heap 𝓤} {A : Atoms 𝓤} {K : Type 
 
 -- it holds and the turn goes on, or it fails and the loop is left
 pub tests : {M : Type 1} {𝓤 : URA M} {H : Heap 𝓤} {A : Atoms 𝓤} {K : Type 0} {W : Given 𝓤 H A} {Γ : List (Item 𝓤)} {En : Env 𝓤 H} {C : Calls 𝓤 H} {Λ : Loops 𝓤 H} {q : Kit.Post 𝓤 H} → K → {c : Opd} {n : ℕ} {b : Code} {y : Bool} → Run.Opd K W Γ En c (vbool y)
-    → (T y → Seq K W Γ (runs C Λ En b q)) → (T (not y) → Seq K W Γ (prop (post 𝓤 H q (exitsᴼ n)))) → Seq K W Γ (runs C Λ En (seq (cond c skipᴹ (exit n)) b) q)
-tests t o held failed = first t $ branches t o (λ z. skips t $ record { prf = held z .prf }) (λ z. jumps t $ record { prf = failed z .prf })
+    → (T y → Seq K W Γ (runs C Λ En b q)) → (T (not y) → Seq K W Γ (prop (post 𝓤 H q (exitsᴼ n))))
+    → Seq K W Γ (runs C Λ En (seq (cond c skipᴹ (exit n)) b) q)
+tests t o held failed =
+    first t $ branches t o (λ z. skips t $ record { prf = held z .prf }) (λ z. jumps t $ record { prf = failed z .prf })

@@ -1,4 +1,5 @@
--- The pass over a list, one entry on and as a whole: it counts the entries, keeps the last one and the one in force, and finds the first refusal.
+-- The pass over a list, one entry on and as a whole: it counts the entries, keeps the last one and the one in force,
+-- and finds the first refusal.
 use mathlib.Core.Path.{_≡_, refl, sym, ap, _∙_}
 use mathlib.Core.Bool.{Bool, true, false, cond, _&&_}
 use mathlib.Core.List.{List, [], _∷_}
@@ -14,7 +15,7 @@ use lib.IntN.{pos, _+ℤ_}
 use mir.Syntax.{w32}
 use mir.Val.{SFits}
 use Rattle.tables.specs.Answers.{takenIn}
-use Rattle.tables.specs.Entries.{Entry, threshold, offset, entry, equal, neighbours, follows, valid, lastUpTo, offsetAt, lastOr, currentOffset, lastUpdate, stepRefusal, firstRefusal, checking}
+use Rattle.tables.specs.Entries.{Entry, threshold, offset, entry, equal, neighbours, follows, valid, lastUpTo, telling, lookup, lastOr, currentOffset, lastUpdate, stepRefusal, firstRefusal, checking}
 use Rattle.tables.proofs.Neighbours.{both, step-follows}
 use Rattle.lent.specs.declared.inner.Pass.{Pass}
 use Rattle.lent.specs.Pass.{Seen, seenIn, begun, after, passed, judged, checkAt, updateAt}
@@ -63,20 +64,21 @@ unfolding firstRefusal
 judged-first zero p e es = refl
 judged-first (suc r) p e es = rw (positive r, positive r)
 
-behind : (t k : ℕ) (p f : Entry) (r : ℕ) (es : List Entry)
+from-second-on : (t k : ℕ) (p f : Entry) (r : ℕ) (es : List Entry)
     → passed (seen t (suc k) p f r) es ≡ seen t (suc k + length es) (lastOr p es) (lastUpTo t f es) (cond (eqb r 0) (firstRefusal (p ∷ es)) r)
 unfolding passed lastOr lastUpTo firstRefusal
-behind t k p f r [] = let n : suc k ≡ suc k + 0 = omega arith in ap (λ (m : ℕ). seen t m p f r) n ∙ ap (seen t (suc k + 0) p f) (sym (unrefused r))
-behind t k p f r (e ∷ es) =
+from-second-on t k p f r [] = let n : suc k ≡ suc k + 0 = omega arith in ap (λ (m : ℕ). seen t m p f r) n ∙ ap (seen t (suc k + 0) p f) (sym (unrefused r))
+from-second-on t k p f r (e ∷ es) =
     let n : suc k + 1 ≡ suc (suc k) = omega arith in
     let m : suc (suc k) + length es ≡ suc k + suc (length es) = omega arith in
     rw (positive k, n, ← m, ← judged-first r p e es)
-    (behind t (suc k) e (cond (leb (threshold e) t) e f) (judged r p e) es)
+    (from-second-on t (suc k) e (cond (leb (threshold e) t) e f) (judged r p e) es)
 
 module _ (t : ℕ) where
-  whole : (e : Entry) (es : List Entry) → passed (begun t) (e ∷ es) ≡ seen t (length (e ∷ es)) (lastOr e es) (lastUpTo t e es) (firstRefusal (e ∷ es))
+  whole : (e : Entry) (es : List Entry)
+      → passed (begun t) (e ∷ es) ≡ seen t (length (e ∷ es)) (lastOr e es) (lastUpTo t e es) (firstRefusal (e ∷ es))
   unfolding passed
-  whole e es = let n : 1 + length es ≡ length (e ∷ es) = omega arith in rw (← n) (behind t 0 e e 0 es)
+  whole e es = let n : 1 + length es ≡ length (e ∷ es) = omega arith in rw (← n) (from-second-on t 0 e e 0 es)
 
   pub counted : (es : List Entry) → passed (begun t) es .count ≡ length es
   unfolding passed
@@ -106,7 +108,7 @@ module _ (t : ℕ) where
       let more : 1 < length (e ∷ f ∷ fs) = omega arith in
       rw (whole e (f ∷ fs), lt-leb (length (e ∷ f ∷ fs)) 1 more)
 
-  -- at a reading below an entry of a valid list, none behind it is nearer
+  -- at a reading below an entry of a valid list, no later one is nearer
   none-nearer : (p f : Entry) (es : List Entry) → valid (p ∷ es) ≡ true → t < threshold p → lastUpTo t f es ≡ f
   unfolding neighbours lastUpTo
   none-nearer p f [] v l = refl
@@ -116,13 +118,13 @@ module _ (t : ℕ) where
       let a : t < threshold e = omega arith in
       rw (lt-leb (threshold e) t a) (none-nearer e f es (h .1) a)
 
-  pub in-force : (es : List Entry) → valid es ≡ true → offset (passed (begun t) es .found) ≡ offsetAt es t
-  unfolding passed offsetAt lastUpTo
+  pub in-force : (es : List Entry) → valid es ≡ true → telling (passed (begun t) es .found) ≡ lookup es t
+  unfolding passed lookup lastUpTo
   in-force [] v = refl
-  in-force (e ∷ es) v = ap (λ (s : Seen). offset (s .found)) (whole e es) ∙ by-order (decLt t (threshold e))
+  in-force (e ∷ es) v = ap (λ (s : Seen). telling (s .found)) (whole e es) ∙ by-order (decLt t (threshold e))
     where
-      by-order : Dec (t < threshold e) → offset (lastUpTo t e es) ≡ offsetAt (e ∷ es) t
-      by-order (yes l) = rw (lt-ltb t (threshold e) l) (ap offset (none-nearer e e es v l))
+      by-order : Dec (t < threshold e) → telling (lastUpTo t e es) ≡ lookup (e ∷ es) t
+      by-order (yes l) = rw (lt-ltb t (threshold e) l) (ap telling (none-nearer e e es v l))
       by-order (no l) = let h : threshold e ≤ t = omega (arith, l) in rw (le-ltb t (threshold e) h, le-leb (threshold e) t h)
 
 -- ---- among 32-bit offsets no entry is refused exactly if the list is valid
@@ -130,7 +132,8 @@ both-none : (k m : ℕ) (b c : Bool) → eqb k 0 ≡ b → eqb m 0 ≡ c → eqb
 both-none zero m b c h h′ = rw (← h, ← h′)
 both-none (suc k) m b c h h′ = rw (← h, positive k, positive k)
 
-pub none-refused : (es : List Entry) → ((k : ℕ) → k < length es → SFits w32 (offset (getD es k noEntry))) → eqb (firstRefusal es) 0 ≡ valid es
+pub none-refused : (es : List Entry) → ((k : ℕ) → k < length es → SFits w32 (offset (getD es k noEntry)))
+    → eqb (firstRefusal es) 0 ≡ valid es
 unfolding firstRefusal neighbours
 none-refused [] fits = refl
 none-refused (p ∷ []) fits = refl

@@ -18,7 +18,7 @@ use Rattle.tables.proofs.LeapEntry as E
 abbrev Row : Share → List LeapEntry → ℕ → ℕ → Fml
 Row q ys b o = parts (mem E.the-row) (shares E.the-row) q ys b o
 
--- those behind the first n
+-- those after the first n
 abbrev pub Rest : Share → ℕ → List LeapEntry → ℕ → ℕ → Fml
 Rest q zero ys b o = Row q ys b o
 Rest q (suc n) [] b o = ftrue
@@ -29,14 +29,16 @@ abbrev pub Elems : Share → ℕ → List LeapEntry → ℕ → ℕ → Fml
 Elems q n ys b o = arr-parts (shares E.the-row) n .part q ys b o
 
 module _ {M : Type 1} (𝓤 : URA M) (H : Heap 𝓤) (A : Atoms 𝓤) (W : Given 𝓤 H A) (q : Share) where
-  row-out : (n : ℕ) (ys : List LeapEntry) (b o : ℕ) → ent 𝓤 (sem 𝓤 H A (Row q ys b o)) (sep 𝓤 (sem 𝓤 H A (Row q (take n ys) b o)) (sem 𝓤 H A (Rest q n ys b o)))
+  row-out : (n : ℕ) (ys : List LeapEntry) (b o : ℕ)
+      → ent 𝓤 (sem 𝓤 H A (Row q ys b o)) (sep 𝓤 (sem 𝓤 H A (Row q (take n ys) b o)) (sem 𝓤 H A (Rest q n ys b o)))
   row-out zero ys b o = emp∗ 𝓤 (sem 𝓤 H A (Row q ys b o))
   row-out (suc n) [] b o = emp∗ 𝓤 (emp 𝓤)
   row-out (suc n) (y ∷ ys) b o =
       let o′ = o + mem E.the-row .size in
       qed W (‵ (Row q (y ∷ ys) b o) ∷ []) ∵ fsplit ! $ move ! (1 ∷ []) $ use1 W (‵ (Row q (take n ys) b o′) ⊛ ‵ (Rest q n ys b o′)) (row-out n ys b o′) $ split ! $ move ! (2 ∷ 0 ∷ []) $ fjoin ! $ done !
 
-  row-in : (n : ℕ) (ys : List LeapEntry) (b o : ℕ) → ent 𝓤 (sep 𝓤 (sem 𝓤 H A (Row q (take n ys) b o)) (sem 𝓤 H A (Rest q n ys b o))) (sem 𝓤 H A (Row q ys b o))
+  row-in : (n : ℕ) (ys : List LeapEntry) (b o : ℕ)
+      → ent 𝓤 (sep 𝓤 (sem 𝓤 H A (Row q (take n ys) b o)) (sem 𝓤 H A (Rest q n ys b o))) (sem 𝓤 H A (Row q ys b o))
   row-in zero ys b o = snd∗ 𝓤 (emp 𝓤) (sem 𝓤 H A (Row q ys b o))
   row-in (suc n) [] b o = snd∗ 𝓤 (emp 𝓤) (emp 𝓤)
   row-in (suc n) (y ∷ ys) b o =
@@ -44,12 +46,14 @@ module _ {M : Type 1} (𝓤 : URA M) (H : Heap 𝓤) (A : Atoms 𝓤) (W : Given
       qed W (‵ (Row q (y ∷ take n ys) b o) ∷ ‵ (Rest q n ys b o′) ∷ []) ∵ fsplit ! $ move ! (1 ∷ 2 ∷ []) $ use2 W (‵ (Row q ys b o′)) (row-in n ys b o′) $ move ! (1 ∷ 0 ∷ []) $ fjoin ! $ done !
 
   module _ (n : ℕ) (ys : List LeapEntry) (b o : ℕ) where
-    pub prefix-out : {m : ℕ} → ent 𝓤 (sem 𝓤 H A (Elems q m ys b o)) (sep 𝓤 (sem 𝓤 H A (Elems q (length (take n ys)) (take n ys) b o)) (sem 𝓤 H A (Rest q n ys b o)))
+    pub prefix-out : {m : ℕ}
+        → ent 𝓤 (sem 𝓤 H A (Elems q m ys b o)) (sep 𝓤 (sem 𝓤 H A (Elems q (length (take n ys)) (take n ys) b o)) (sem 𝓤 H A (Rest q n ys b o)))
     prefix-out {m} =
         qed W (‵ (Elems q m ys b o) ∷ []) ∵ fsplit ! $ drop ! $ use1 W (‵ (Row q (take n ys) b o) ⊛ ‵ (Rest q n ys b o)) (row-out n ys b o) $ split ! $
         feqI ! ℕ (length (take n ys)) (length (take n ys)) refl $ fjoin ! $ done !
 
-    pub prefix-in : {m : ℕ} → length ys ≡ m → ent 𝓤 (sep 𝓤 (sem 𝓤 H A (Elems q (length (take n ys)) (take n ys) b o)) (sem 𝓤 H A (Rest q n ys b o))) (sem 𝓤 H A (Elems q m ys b o))
+    pub prefix-in : {m : ℕ} → length ys ≡ m
+        → ent 𝓤 (sep 𝓤 (sem 𝓤 H A (Elems q (length (take n ys)) (take n ys) b o)) (sem 𝓤 H A (Rest q n ys b o))) (sem 𝓤 H A (Elems q m ys b o))
     prefix-in {m} e =
         qed W (‵ (Elems q (length (take n ys)) (take n ys) b o) ∷ ‵ (Rest q n ys b o) ∷ []) ∵ fsplit ! $ drop ! $ use2 W (‵ (Row q ys b o)) (row-in n ys b o) $
         feqI ! ℕ (length ys) m e $ fjoin ! $ done !

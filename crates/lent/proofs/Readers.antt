@@ -1,4 +1,5 @@
--- A call on a lent list that makes the pass and reads its answer off it: its code, its contract, and that the code meets the contract, over the answer's type, the reader and what the two contracts say.
+-- A call on a lent list that makes the pass and reads its answer off it: its code, its contract, and that the code
+-- meets the contract, over the answer's type, the reader and what the two contracts say.
 use mathlib.Core.Path.{refl}
 use Prim.Native.Nat.{ℕ}
 use mathlib.Core.List.{List, [], _∷_}
@@ -40,8 +41,8 @@ use Rattle.lent.proofs.inner.pass_over as over
 use Rattle.lent.proofs.inner.pass_over.Symbol.{name as #over}
 use Rattle.lent.proofs.Values.{pv, listᴹ}
 use Rattle.lent.proofs.Passing.{Said}
-use Rattle.lent.proofs.Told.{calls-told, calls-spelled}
-use Rattle.lent.proofs.Handed.{Passing, to-over, hands-over, reader, reads, Reading, to-read, hands-read}
+use Rattle.lent.proofs.CallInWalk.{calls-told, calls-spelled}
+use Rattle.lent.proofs.PassAndReader.{Passing, to-over, hands-over, reader, reads, Reading, to-read, hands-read}
 
 -- the code: the pass at the reading 0, then the reader; τ is the machine's type of the answer
 abbrev pub reading : Ty → Name → Fn

@@ -1,5 +1,4 @@
 -- The machine values of entries, tables and passes, and the MIR type of a lent list of entries.
-use mathlib.Core.List.{[]}
 use package.mir.Syntax.{Ty, named, imm, tyRef}
 use package.mir.Val.{Val}
 use denote.Memory.{pointee}

@@ -1,4 +1,5 @@
--- One pass over a list, from its first entry to its last: what is known of the entries passed. Only contracts of private functions cite it.
+-- One pass over a list, from its first entry to its last: what is known of the entries passed. Only contracts of
+-- private functions cite it.
 use mathlib.Core.Bool.{cond}
 use mathlib.Core.List.{List, [], _∷_}
 use mathlib.Core.Option.{Option, none, some}
@@ -11,8 +12,8 @@ use Rattle.tables.specs.Entries.{Entry, threshold, entry, stepRefusal}
 use Rattle.tables.specs.declared.Taken.{Taken}
 use Rattle.lent.specs.declared.inner.Pass.{Pass}
 
--- at a TAI reading: how many entries were passed, the last of them, the last at or below the reading or else the first, and the
--- first refusal of an entry by the one before it
+-- at a TAI reading: how many entries were passed, the last of them, the last at or below the reading or else the first,
+-- and the first refusal of an entry by the one before it
 pub record Seen : Type 0 where
   pub tai : ℕ
   pub count : ℕ

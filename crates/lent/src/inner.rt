@@ -5,21 +5,24 @@ ghost use mathlib.Core.Path.{_≡_};
 ghost use Prim.Native.Nat.{_+_, _<_, _^_};
 ghost use lib.Dec.{eqb};
 ghost use Rattle.refusals.specs.Outcome.{answered};
-ghost use Rattle.tables.specs.Entries.{offset, valid};
-ghost use Rattle.tables.specs.Answers.{takenIn, lengthIn, emptyIn, updateIn, offsetIn};
+ghost use Rattle.tables.specs.Entries.{offset, telling, valid};
+ghost use Rattle.tables.specs.Answers.{takenIn, lengthIn, emptyIn, updateIn, lookupIn, offsetIn};
 ghost use Rattle.lent.specs.Pass.{seenIn, begun, nearer, judged, after, passed, checkAt, ofTaken, updateAt};
 use refusals::Refusal;
 use scales::tai::Tai;
 use tables::EmptyAnswer;
 use tables::LeapEntry;
 use tables::LengthAnswer;
+use tables::Lookup;
+use tables::LookupAnswer;
 use tables::OffsetAnswer;
 use tables::Taken;
 use tables::UpdateAnswer;
 use tables::inner::OFFSET_OF_NO_ENTRY;
+use tables::inner::offset_in;
 use tables::inner::step;
 
-// The entries passed so far, seen at a TAI reading.
+// What is known of the entries so far, at a TAI reading.
 pub struct Pass {
     // the reading, in nanoseconds
     pub tai: u64,
@@ -48,14 +51,14 @@ pub fn begin(tai: u64) -> Pass
     }
 }
 
-// The last entry at or below a reading, one entry on.
+// Folds one entry into the last one at or below a reading.
 fn pick(tai: u64, found: LeapEntry, next: LeapEntry) -> LeapEntry
     ensures { λ r. ⌜ r ≡ nearer tai found next ⌝ }
 {
     if next.tai_nanos <= tai { next } else { found }
 }
 
-// The first refusal, one entry on.
+// Folds one entry into the first refusal.
 fn judge(answer: Taken, before: LeapEntry, next: LeapEntry) -> Taken
     ensures { λ r. ⌜ takenIn r ≡ judged (takenIn answer) before next ⌝ }
 {
@@ -65,7 +68,7 @@ fn judge(answer: Taken, before: LeapEntry, next: LeapEntry) -> Taken
     }
 }
 
-// One entry on.
+// Folds in one entry.
 pub fn pass_on(pass: Pass, next: LeapEntry) -> Pass
     requires { ⌜ pass .count + 1 < 2 ^ 64 ⌝ }
     ensures { λ r. ⌜ seenIn r ≡ after (seenIn pass) next ⌝ }
@@ -162,18 +165,31 @@ pub fn current(pass: Pass) -> OffsetAnswer
     offset_of(answer, last)
 }
 
+// What is in force at the reading.
+pub fn look_up(pass: Pass) -> LookupAnswer
+    ensures { λ r. ⌜ lookupIn r ≡ ofTaken (pass .answer) (answered (telling (pass .found))) ⌝ }
+{
+    let answer = pass.answer;
+    let found = pass.found;
+    match answer {
+        Taken::Done => LookupAnswer::Told(Lookup {
+            offset: found.tai_minus_utc,
+        }),
+        Taken::Refused(_) => LookupAnswer::Refused(Refusal::BadTable),
+    }
+}
+
 // The offset in force at the reading.
 pub fn in_force(pass: Pass) -> OffsetAnswer
     ensures { λ r. ⌜ offsetIn r ≡ ofTaken (pass .answer) (answered (offset (pass .found))) ⌝ }
 {
-    let answer = pass.answer;
-    let found = pass.found;
-    offset_of(answer, found)
+    offset_in(look_up(pass))
 }
 
 // The pass itself, the only loop over a lent list. No entry is refused exactly if the list is valid.
 pub fn pass_over(entries: &[LeapEntry], tai: u64) -> Pass
-    ensures { λ r. ⌜ (seenIn r ≡ passed (begun tai) (now (entries .entry))) × (eqb (takenIn (r .answer)) 0 ≡ valid (now (entries .entry))) ⌝ }
+    ensures { λ r. ⌜ (seenIn r ≡ passed (begun tai) (now (entries .entry))) ×
+        (eqb (takenIn (r .answer)) 0 ≡ valid (now (entries .entry))) ⌝ }
 {
     let mut pass = begin(tai);
     let mut i: usize = 0;

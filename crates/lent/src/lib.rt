@@ -1,6 +1,6 @@
-// The lent forms, after leap.rs: a list of entries, of any length, checked and looked up where it lies, and a table extended in place.
-// Nothing is copied but one entry at a time. A caller may make a list by hand, so every call but the check gives 8 first where
-// it is not valid.
+// The lent forms, after leap.rs: a list of entries, of any length, checked and looked up where it stands, and a table
+// extended in place. Nothing is copied but one entry at a time. A caller may make a list by hand, so every call but the
+// check gives 8 first where it is not valid.
 pub mod inner;
 
 ghost use mathlib.Core.Path.{_≡_};
@@ -32,7 +32,8 @@ pub fn try_from_slice(entries: &[LeapEntry]) -> Taken
 
 // The offset in force at a TAI reading.
 pub fn tai_minus_utc_at(entries: &[LeapEntry], tai: Tai) -> OffsetAnswer
-    ensures { λ r. ⌜ offsetIn r ≡ ofValidList (now (entries .entry)) (answered (offsetAt (now (entries .entry)) (tai .0))) ⌝ }
+    ensures { λ r. ⌜ offsetIn r ≡
+        ofValidList (now (entries .entry)) (answered (offsetAt (now (entries .entry)) (tai .0))) ⌝ }
 {
     inner::in_force(inner::pass_over(entries, tai.0))
 }
@@ -45,7 +46,8 @@ pub fn len(entries: &[LeapEntry]) -> LengthAnswer
 }
 
 pub fn is_empty(entries: &[LeapEntry]) -> EmptyAnswer
-    ensures { λ r. ⌜ emptyIn r ≡ ofValidList (now (entries .entry)) (answered (eqb (length (now (entries .entry))) 0)) ⌝ }
+    ensures { λ r. ⌜ emptyIn r ≡
+        ofValidList (now (entries .entry)) (answered (eqb (length (now (entries .entry))) 0)) ⌝ }
 {
     inner::emptiness(inner::pass_over(entries, NO_READING))
 }
@@ -59,7 +61,8 @@ pub fn last_update(entries: &[LeapEntry]) -> UpdateAnswer
 
 // The offset of the last entry, or 19.
 pub fn current_tai_minus_utc(entries: &[LeapEntry]) -> OffsetAnswer
-    ensures { λ r. ⌜ offsetIn r ≡ ofValidList (now (entries .entry)) (answered (currentOffset (now (entries .entry)))) ⌝ }
+    ensures { λ r. ⌜ offsetIn r ≡
+        ofValidList (now (entries .entry)) (answered (currentOffset (now (entries .entry)))) ⌝ }
 {
     inner::current(inner::pass_over(entries, NO_READING))
 }

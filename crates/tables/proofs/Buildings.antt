@@ -10,6 +10,7 @@ use borrow.Author.Tests.{le-leb, lt-ltb, le-ltb, ne-eqb}
 use lib.ListN.{length, take, replicate}
 use lib.Seq.{take-append-seam}
 use lib.IntN.{ℤ, pos}
+use Rattle.refusals.proofs.Tells.{number-not-zero}
 use Rattle.refusals.specs.declared.Refusal.{Refusal}
 use Rattle.tables.specs.Answers.{takenIn}
 use Rattle.tables.specs.Entries.{Entry, threshold, offset, valid, checking, buildingRefusal}
@@ -18,7 +19,6 @@ use Rattle.tables.specs.declared.LeapTable.{LeapTable}
 use Rattle.tables.specs.declared.Taken.{Taken}
 use Rattle.tables.specs.declared.Taken.the-variants as taken
 use Rattle.tables.proofs.Neighbours.{passes-valid}
-use Rattle.tables.proofs.RefusalNumbers.{number-not-zero}
 use Rattle.tables.proofs.LeapTable.from_lists.Reads as from-lists-contract
 
 -- the table after an accepted building: the list itself, its length that list's length
@@ -32,7 +32,8 @@ pub record Makes (es : List Entry) (answer : Taken) (table : LeapTable) : Type 0
   pub done : answer ≡ taken.Done → Builds es table
   pub refused : (why : Refusal) → answer ≡ taken.Refused why → table ≡ tableOf []
 
-side-by-side : (es : List Entry) (xs : List ℕ) (zs : List ℤ) → paired (map threshold es ++ xs) (map offset es ++ zs) ≡ es ++ paired xs zs
+side-by-side : (es : List Entry) (xs : List ℕ) (zs : List ℤ)
+    → paired (map threshold es ++ xs) (map offset es ++ zs) ≡ es ++ paired xs zs
 unfolding paired
 side-by-side [] xs zs = refl
 side-by-side (e ∷ es) xs zs = ap (λ (fs : List Entry). e ∷ fs) (side-by-side es xs zs)

@@ -1,4 +1,4 @@
--- Each call of this crate leaves one answer for each input, and beside it one table where it gives one.
+-- Each call of this crate leaves one answer for each input, and one table where it gives one.
 use mathlib.Core.Path.{sym, _∙_}
 use Rattle.refusals.proofs.OneAnswer.{OneAnswer, viewed}
 use Rattle.tables.proofs.Tells.{extension-tells, length-tells, empty-tells, entry-tells, update-tells, offset-tells}

@@ -1,6 +1,7 @@
--- What the test of a table's validity gives to a call: its 8, or a valid list of at most 64 entries that lie within the slots.
-use mathlib.Core.Path.{_≡_}
-use mathlib.Core.Bool.{true, false}
+-- What the test of a table's validity gives to a call: its 8, or a valid list of at most 64 entries that lie within the
+-- slots.
+use mathlib.Core.Path.{_≡_, refl, ap}
+use mathlib.Core.Bool.{Bool, true, false, cond}
 use mathlib.Core.List.{List}
 use Prim.Native.Nat.{ℕ, _≤_}
 use native.Mathlib.Omega.{arith}
@@ -8,7 +9,7 @@ use borrow.Author.Tests.{leb-true}
 use lib.Dec.{leb}
 use lib.ListN.{length}
 use lib.IntN.{ℤ}
-use Rattle.refusals.specs.Outcome.{Outcome, refused}
+use Rattle.refusals.specs.Outcome.{Outcome, answered, refused, then, changed}
 use Rattle.tables.specs.Entries.{valid}
 use Rattle.tables.specs.Slots.{slots, entriesOf, validSlots, validTable, ofValidSlots, ofValid}
 use Rattle.tables.specs.declared.LeapTable.{LeapTable}
@@ -53,3 +54,30 @@ checked t h h′ v =
       in-offsets = omega arith;
       is-valid = valid-slots (t .thresholds) (t .offsets) (t .len) v;
     }
+
+-- 8 stays first where a step follows
+module _ {A B : Type 0} where
+  pub eight-first : (next : A → Outcome B) (v : Bool) (o : Outcome A)
+      → then (cond v o (refused 8)) next ≡ cond v (then o next) (refused 8)
+  eight-first next true o = refl
+  eight-first next false o = refl
+
+  pub eight-changed : (f : A → B) (v : Bool) (o : Outcome A)
+      → changed f (cond v o (refused 8)) ≡ cond v (changed f o) (refused 8)
+  eight-changed f true o = refl
+  eight-changed f false o = refl
+
+-- an answer tells that the table is valid, and what was answered
+module _ {A : Type 0} (a : A) where
+  pub told-valid : (v : Bool) {b : A} → answered b ≡ cond v (answered a) (refused 8) → v ≡ true
+  told-valid true e = refl
+  told-valid false e = cc
+
+  pub told-answer : (v : Bool) {b : A} → answered b ≡ cond v (answered a) (refused 8) → b ≡ a
+  told-answer true e = cc
+  told-answer false e = cc
+
+  pub told-refusal : {B : Type 0} (v : Bool) {k : ℕ} (o : Outcome B) → refused k ≡ cond v (answered a) (refused 8)
+      → refused k ≡ cond v o (refused 8)
+  told-refusal true {k} o e = cc
+  told-refusal false {k} o e = let same : k ≡ 8 = cc in ap refused same

@@ -11,6 +11,7 @@ use borrow.Author.Tests.{le-leb, lt-leb, ne-eqb}
 use lib.ListN.{length, length-append, length-map, length-replicate, length-set, replicate, getD}
 use lib.Seq.{getD-set-other}
 use lib.IntN.{pos}
+use Rattle.refusals.proofs.Tells.{number-not-zero}
 use Rattle.refusals.specs.declared.Refusal.{Refusal}
 use Rattle.tables.specs.Answers.{takenIn}
 use Rattle.tables.specs.Entries.{Entry, threshold, offset, neighbours, follows, valid, lastOr, joinRefusal}
@@ -23,7 +24,6 @@ use Rattle.tables.proofs.FirstSlots.{one-stored, slots-length}
 use Rattle.tables.proofs.Neighbours.{both, zero-follows}
 use Rattle.tables.proofs.Checked.{checked}
 use Rattle.tables.proofs.Growing.{has-room}
-use Rattle.tables.proofs.RefusalNumbers.{number-not-zero}
 use Rattle.tables.proofs.LeapTable.try_extend.Reads as try-extend-contract
 
 -- the arrays of a table have 64 slots each, as their type says
@@ -44,7 +44,8 @@ pub record Extends (t : LeapTable) (e : LeapEntry) (answer : Taken) (after : Lea
   pub done : answer ≡ taken.Done → Sized t → Grows t e after
   pub refused : (why : Refusal) → answer ≡ taken.Refused why → after ≡ t
 
-valid-joined : (p : Entry) (ps : List Entry) (e : Entry) → valid (p ∷ ps) ≡ true → follows (lastOr p ps) e ≡ true → valid (p ∷ ps ++ e ∷ []) ≡ true
+valid-joined : (p : Entry) (ps : List Entry) (e : Entry) → valid (p ∷ ps) ≡ true → follows (lastOr p ps) e ≡ true
+    → valid (p ∷ ps ++ e ∷ []) ≡ true
 unfolding neighbours lastOr
 valid-joined p [] e v f = rw f
 valid-joined p (q ∷ qs) e v f =
@@ -88,7 +89,8 @@ module _ (t : LeapTable) (e : LeapEntry) where
         let few : t .len + 1 ≤ 64 = omega arith in
         record {
           list = list;
-          size = sym (length-append (entriesOf t) (e ∷ []) ∙ ap (λ (n : ℕ). n + 1) (slots-length (t .thresholds) (t .offsets) (t .len) (k .in-thresholds) (k .in-offsets)));
+          size =
+              sym (length-append (entriesOf t) (e ∷ []) ∙ ap (λ (n : ℕ). n + 1) (slots-length (t .thresholds) (t .offsets) (t .len) (k .in-thresholds) (k .in-offsets)));
           thresholds = λ i n. getD-set-other (t .thresholds) (t .len) i (e .«tai_nanos») 0 n;
           offsets = λ i n. getD-set-other (t .offsets) (t .len) i (e .«tai_minus_utc») (pos 0) n;
           valid = rw (le-leb (t .len + 1) 64 few, list) (stays-valid (entriesOf t) e (k .is-valid) z);
@@ -113,7 +115,8 @@ pub try-extend : (κ : _) (a : _) (x : _) (end : _) → try-extend-contract.Post
 try-extend κ a x end post = extends (a .0) (a .1 .0) (x .answer) (x .table) post
 
 -- every table that is made has its 64 slots, and an extension keeps them
-filled : {A : Type 0} (f : Entry → A) (d : A) (es : List Entry) → length es ≤ 64 → length (map f es ++ replicate (64 - length es) d) ≡ 64
+filled : {A : Type 0} (f : Entry → A) (d : A) (es : List Entry) → length es ≤ 64
+    → length (map f es ++ replicate (64 - length es) d) ≡ 64
 filled f d es short =
     length-append (map f es) (replicate (64 - length es) d)
     ∙ (λ i. length-map es f i + length-replicate (64 - length es) d i)

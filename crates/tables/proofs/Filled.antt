@@ -10,11 +10,12 @@ use Rattle.tables.specs.Slots.{paired, slots, tableOf}
 use Rattle.tables.specs.declared.LeapTable.{LeapTable}
 use Rattle.tables.proofs.FirstSlots.{slots-length}
 
--- the first n of s, and what d has behind them
+-- the first n of s, and what d has after them
 abbrev pub over : {A : Type 0} → List A → List A → ℕ → List A
 over d s n = take n s ++ drop n d
 
-pub over-more : {A : Type 0} (d s : List A) (j : ℕ) (z : A) → j < length d → j < length s → set (over d s j) j (getD s j z) ≡ over d s (suc j)
+pub over-more : {A : Type 0} (d s : List A) (j : ℕ) (z : A) → j < length d → j < length s
+    → set (over d s j) j (getD s j z) ≡ over d s (suc j)
 over-more [] s j z h k = absurd (omega arith)
 over-more (y ∷ d) [] j z h k = absurd (omega arith)
 over-more (y ∷ d) (x ∷ s) zero z h k = refl
@@ -45,4 +46,11 @@ pub table-is : (xs : List ℕ) (zs : List ℤ) (n : ℕ) → n ≤ length xs →
     (record { thresholds = over (replicate 64 0) xs n; offsets = over (replicate 64 (pos 0)) zs n; len = n })
     (tableOf (slots xs zs n))
 table-is xs zs n h k =
-    rw (slots-length xs zs n h k, thresholds-of n xs zs k, offsets-of n xs zs h, ← drop-same {A = ℕ} n 64 0, ← drop-same n 64 (pos 0))
+    rw (
+      slots-length xs zs n h k,
+      thresholds-of n xs zs k,
+      offsets-of n xs zs h,
+      ← drop-same {A =
+          ℕ} n 64 0,
+      ← drop-same n 64 (pos 0),
+    )

@@ -32,7 +32,8 @@ held (suc k) (x ∷ xs) (z ∷ zs) d h l = held k xs zs d (omega arith) (omega a
 held k [] zs d h l = absurd (omega arith)
 held k (x ∷ xs) [] d h l = absurd (omega arith)
 
-pub stored : (n : ℕ) (xs : List ℕ) (zs : List ℤ) (x : ℕ) (z : ℤ) → paired (set xs n x) (set zs n z) ≡ set (paired xs zs) n (entry x z)
+pub stored : (n : ℕ) (xs : List ℕ) (zs : List ℤ) (x : ℕ) (z : ℤ)
+    → paired (set xs n x) (set zs n z) ≡ set (paired xs zs) n (entry x z)
 unfolding paired
 stored n [] zs x z = refl
 stored zero (y ∷ xs) [] x z = refl

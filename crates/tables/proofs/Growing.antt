@@ -30,7 +30,8 @@ module _ (t : LeapTable) (e : LeapEntry) where
     takes r = by-number 0 (rw v r)
 
 -- an entry is taken only where there is room
-pub has-room : (xs : List ℕ) (zs : List ℤ) (n : ℕ) (e : Entry) → n ≤ length xs → n ≤ length zs → 0 ≡ joinRefusal (slots xs zs n) e → n < 64
+pub has-room : (xs : List ℕ) (zs : List ℤ) (n : ℕ) (e : Entry) → n ≤ length xs → n ≤ length zs
+    → 0 ≡ joinRefusal (slots xs zs n) e → n < 64
 has-room xs zs n e h h′ z = go (decLt n 64)
   where
     go : Dec (n < 64) → n < 64

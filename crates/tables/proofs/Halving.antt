@@ -1,11 +1,12 @@
--- A search by halves among rising thresholds: what is at or below t stands before `low`, and what is above it from `high` on.
+-- A search by halves among rising thresholds: what is at or below t stands before `low`, and what is above it from
+-- `high` on.
 use mathlib.Core.Path.{_≡_}
 use mathlib.Core.List.{List}
 use Prim.Native.Nat.{ℕ, _+_, _≤_, _<_}
 use native.Mathlib.Omega.{arith}
 use native.Mathlib.Decide.{decLt}
 use lib.ListN.{getD}
-use Rattle.tables.specs.Search.{Rises, Passed}
+use Rattle.tables.specs.Search.{Rises, AtOrBelow}
 
 pub record Halves (xs : List ℕ) (n t low high : ℕ) : Type 0 where
   pub order : low ≤ high
@@ -17,7 +18,7 @@ module _ (xs : List ℕ) (n t : ℕ) where
   pub whole : Halves xs n t 0 n
   whole = record { order = omega arith; within = omega arith; below = λ i l. absurd (omega arith); above = λ i l l′. absurd (omega arith) }
 
-  pub met : (low high : ℕ) → Halves xs n t low high → high ≤ low → Passed xs n t low
+  pub met : (low high : ℕ) → Halves xs n t low high → high ≤ low → AtOrBelow xs n t low
   met low high h m =
       let o = h .order in
       let w = h .within in

@@ -1,4 +1,4 @@
--- The offset in force is that of the last entry at or below the reading, or of the first.
+-- What is in force is what the last entry at or below the reading tells, or the first.
 use mathlib.Core.Path.{_≡_, refl, ap, _∙_}
 use mathlib.Core.Bool.{true}
 use mathlib.Core.List.{List, [], _∷_}
@@ -7,9 +7,9 @@ use native.Mathlib.Omega.{arith}
 use borrow.Author.Tests.{le-leb, lt-leb, lt-ltb, le-ltb}
 use lib.ListN.{length, getD}
 use lib.IntN.{ℤ, pos}
-use Rattle.tables.specs.Entries.{Entry, threshold, offset, entry, valid, lastUpTo, offsetAt}
-use Rattle.tables.specs.Slots.{slots}
-use Rattle.tables.specs.Search.{Rises, Passed}
+use Rattle.tables.specs.Entries.{Entry, threshold, entry, valid, lastUpTo, telling, lookup}
+use Rattle.tables.specs.Slots.{slotAt, slots}
+use Rattle.tables.specs.Search.{Rises, AtOrBelow}
 use Rattle.tables.proofs.FirstSlots.{slots-length, slot-is}
 use Rattle.tables.proofs.Neighbours.{rises-by}
 
@@ -35,13 +35,14 @@ module _ (t : ℕ) where
       (record { within = omega arith; below = λ i l. r .below (suc i) (omega arith); above = λ i l l′. r .above (suc i) (omega arith) (omega arith) }))
 
   -- the entry before the first that is above, or the first entry
-  pub in-force : (k : ℕ) (d : Entry) (es : List Entry) → 0 < length es → Reached es d t k → offsetAt es t ≡ offset (getD es (k - 1) d)
-  unfolding offsetAt
+  pub in-force : (k : ℕ) (d : Entry) (es : List Entry) → 0 < length es → Reached es d t k
+      → lookup es t ≡ telling (getD es (k - 1) d)
+  unfolding lookup
   in-force k d [] n r = absurd (omega arith)
   in-force zero d (e ∷ es) n r = rw (lt-ltb t (threshold e) (r .above 0 (omega arith) (omega arith)))
   in-force (suc k) d (e ∷ es) n r =
       let s : suc k - 1 ≡ k = omega arith in
-      rw (le-ltb t (threshold e) (r .below 0 (omega arith)), s) (ap offset (found (suc k) e d (e ∷ es) r))
+      rw (le-ltb t (threshold e) (r .below 0 (omega arith)), s) (ap telling (found (suc k) e d (e ∷ es) r))
 
 -- what the search counts is the place
 module _ (xs : List ℕ) (zs : List ℤ) (n : ℕ) (h : n ≤ length xs) (h′ : n ≤ length zs) where
@@ -63,7 +64,7 @@ module _ (xs : List ℕ) (zs : List ℤ) (n : ℕ) (h : n ≤ length xs) (h′ :
         rw (← at i (omega arith), ← at j l′) (rw e at r);
   }
 
-  reached : (t k : ℕ) → Passed xs n t k → Reached es d t k
+  reached : (t k : ℕ) → AtOrBelow xs n t k → Reached es d t k
   reached t k p =
       let n-is = slots-length xs zs n h h′ in
       let w = p .within in
@@ -73,12 +74,12 @@ module _ (xs : List ℕ) (zs : List ℤ) (n : ℕ) (h : n ≤ length xs) (h′ :
         above = λ i l l′. rw (at i (omega arith)) (p .above i l (omega arith));
       }
 
-  pub offset-is : (t k : ℕ) → 0 < n → Passed xs n t k → offsetAt es t ≡ getD zs (k - 1) (pos 0)
-  offset-is t k p q =
+  pub lookup-is : (t k : ℕ) → 0 < n → AtOrBelow xs n t k → lookup es t ≡ telling (slotAt xs zs (k - 1))
+  lookup-is t k p q =
       let n-is = slots-length xs zs n h h′ in
       let w = q .within in
-      in-force t k d es (omega arith) (reached t k q) ∙ ap offset (slot-is xs zs n (k - 1) d (omega arith) h h′)
+      in-force t k d es (omega arith) (reached t k q) ∙ ap telling (slot-is xs zs n (k - 1) d (omega arith) h h′)
 
-pub none-in-force : (t : ℕ) → offsetAt [] t ≡ pos 19
-unfolding offsetAt
+pub none-in-force : (t : ℕ) → lookup [] t ≡ record { offset = pos 19 }
+unfolding lookup
 none-in-force t = refl

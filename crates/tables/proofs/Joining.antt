@@ -32,7 +32,8 @@ module _ (k : ℕ) (d : Entry) where
   full [] e h l = absurd (omega arith)
   full (p ∷ ps) e h l = rw (le-leb 64 (length (p ∷ ps)) (omega arith))
 
-  pub by-last : (es : List Entry) (e : Entry) → length es ≡ suc k → suc k < 64 → joinRefusal es e ≡ stepRefusal (getD es k d) e
+  pub by-last : (es : List Entry) (e : Entry) → length es ≡ suc k → suc k < 64
+      → joinRefusal es e ≡ stepRefusal (getD es k d) e
   unfolding joinRefusal
   by-last [] e h l = absurd (omega arith)
   by-last (p ∷ ps) e h l = rw (lt-leb 64 (length (p ∷ ps)) (omega arith), last-is k p d ps (omega arith))
@@ -46,7 +47,8 @@ module _ (k : ℕ) (d : Entry) where
   unfolding lastUpdate
   update-is [] h l = absurd (omega arith)
   update-is (e ∷ []) h l = absurd (omega arith)
-  update-is (e ∷ f ∷ fs) h l = ap (λ (x : Entry). some (threshold x)) (last-is (length fs) f d fs refl ∙ ap (λ (i : ℕ). getD (e ∷ f ∷ fs) i d) s)
+  update-is (e ∷ f ∷ fs) h l =
+      ap (λ (x : Entry). some (threshold x)) (last-is (length fs) f d fs refl ∙ ap (λ (i : ℕ). getD (e ∷ f ∷ fs) i d) s)
     where
       s : suc (length fs) ≡ k
       s = omega arith

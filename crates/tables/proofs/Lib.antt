@@ -2,7 +2,6 @@ pub mod FirstSlots
 pub mod Integers
 pub mod Neighbours
 pub mod Scanned
-pub mod RefusalNumbers
 pub mod InForce
 pub mod Halving
 pub mod Filled
@@ -13,6 +12,6 @@ pub mod Tested
 pub mod Extensions
 pub mod Buildings
 pub mod Lookups
-pub mod Passed
+pub mod Reached
 pub mod Tells
 pub mod Calls

@@ -8,19 +8,19 @@ use native.Mathlib.Omega.{arith}
 use native.Mathlib.Decide.{decLt}
 use lib.ListN.{length, getD, getElem?}
 use lib.IntN.{pos}
-use Rattle.tables.specs.Entries.{Entry, threshold, offset, entry, valid, offsetAt}
+use Rattle.tables.specs.Entries.{Entry, threshold, entry, valid, telling, lookup}
 use Rattle.tables.proofs.FirstSlots.{some-at}
 use Rattle.tables.proofs.Neighbours.{rises-by}
 use Rattle.tables.proofs.InForce.{Reached, in-force, none-in-force}
 use Rattle.tables.proofs.Tested.{in-range, at-place}
 
--- the offset in force at t, by the entry that gives it
-pub record Lookup (es : List Entry) (t : ℕ) : Type 0 where
-  pub none : es ≡ [] → offsetAt es t ≡ pos 19
-  pub before : (e : Entry) → getElem? es 0 ≡ some e → t < threshold e → offsetAt es t ≡ offset e
+-- what is in force at t, by the entry that tells it
+pub record LooksUp (es : List Entry) (t : ℕ) : Type 0 where
+  pub none : es ≡ [] → lookup es t ≡ record { offset = pos 19 }
+  pub before : (e : Entry) → getElem? es 0 ≡ some e → t < threshold e → lookup es t ≡ telling e
   -- the entry at place k is at or below t, and every later one above
   pub last : (k : ℕ) (e : Entry) → getElem? es k ≡ some e → threshold e ≤ t
-      → ((j : ℕ) (f : Entry) → k < j → getElem? es j ≡ some f → t < threshold f) → offsetAt es t ≡ offset e
+      → ((j : ℕ) (f : Entry) → k < j → getElem? es j ≡ some f → t < threshold f) → lookup es t ≡ telling e
 
 module _ (es : List Entry) (t : ℕ) (v : valid es ≡ true) where
   abbrev d : Entry
@@ -57,12 +57,12 @@ module _ (es : List Entry) (t : ℕ) (v : valid es ≡ true) where
       go i (yes p) b = omega (arith, rises i k p (in-range es k e d h), here)
       go i (no n) b = let z : i ≡ k = omega (arith, n) in rw z here
 
-  pub looks-up : Lookup es t
+  pub looks-up : LooksUp es t
   looks-up = record {
     none = λ z. rw z (none-in-force t);
-    before = λ e h l. in-force t 0 d es (in-range es 0 e d h) (below-all e h l) ∙ ap offset (at-place es 0 e d h);
+    before = λ e h l. in-force t 0 d es (in-range es 0 e d h) (below-all e h l) ∙ ap telling (at-place es 0 e d h);
     last = λ k e h l later.
         let r = in-range es k e d h in
         let s : suc k - 1 ≡ k = omega arith in
-        (rw s at (in-force t (suc k) d es (omega arith) (up-to k e h l later))) ∙ ap offset (at-place es k e d h);
+        (rw s at (in-force t (suc k) d es (omega arith) (up-to k e h l later))) ∙ ap telling (at-place es k e d h);
   }

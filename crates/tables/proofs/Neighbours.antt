@@ -51,8 +51,9 @@ module _ (p e : Entry) (es : List Entry) (z : firstRefusal (p ∷ e ∷ es) ≡ 
   rest-zero : firstRefusal (e ∷ es) ≡ 0
   rest-zero = sym (passes p e es first-zero) ∙ z
 
--- one entry more, behind entries that are refused nowhere
-pub joined-refusal : (es : List Entry) (p e : Entry) → firstRefusal (es ++ p ∷ []) ≡ 0 → firstRefusal (es ++ p ∷ e ∷ []) ≡ stepRefusal p e
+-- one entry more, after entries of which none is refused
+pub joined-refusal : (es : List Entry) (p e : Entry) → firstRefusal (es ++ p ∷ []) ≡ 0
+    → firstRefusal (es ++ p ∷ e ∷ []) ≡ stepRefusal p e
 unfolding firstRefusal
 joined-refusal [] p e z = zero-or (stepRefusal p e)
 joined-refusal (x ∷ []) p e z =
@@ -61,14 +62,15 @@ joined-refusal (x ∷ y ∷ es) p e z =
     passes x y (es ++ p ∷ e ∷ []) (first-zero x y (es ++ p ∷ []) z)
     ∙ joined-refusal (y ∷ es) p e (rest-zero x y (es ++ p ∷ []) z)
 
--- a refusal stays, whatever comes behind
+-- a refusal stays, whatever follows
 pub refusal-stays : (es fs : List Entry) → (firstRefusal es ≡ 0 → ⊥) → firstRefusal (es ++ fs) ≡ firstRefusal es
 unfolding firstRefusal
 refusal-stays [] fs n = absurd (n refl)
 refusal-stays (p ∷ []) fs n = absurd (n refl)
 refusal-stays (p ∷ e ∷ es) fs n = go (ℕ-discrete (stepRefusal p e) 0) (refusal-stays (e ∷ es) fs)
   where
-    go : Dec (stepRefusal p e ≡ 0) → ((firstRefusal (e ∷ es) ≡ 0 → ⊥) → firstRefusal (e ∷ es ++ fs) ≡ firstRefusal (e ∷ es))
+    go : Dec (stepRefusal p e ≡ 0)
+        → ((firstRefusal (e ∷ es) ≡ 0 → ⊥) → firstRefusal (e ∷ es ++ fs) ≡ firstRefusal (e ∷ es))
         → firstRefusal (p ∷ e ∷ es ++ fs) ≡ firstRefusal (p ∷ e ∷ es)
     go (yes h) rest =
         let m = passes p e es h in
@@ -101,15 +103,18 @@ zero-follows p e z = by-order (decLt (threshold p) (threshold e))
     clash : (k : ℕ) → 0 < k → k ≡ 0 → ⊥
     clash k h e = omega arith
 
-    by-more : Dec (offset p ≡ pos 2_147_483_647) → Dec (offset e ≡ offset p +ℤ pos 1) → threshold p < threshold e → follows p e ≡ true
-    by-more (yes m) d l = absurd (clash 7 (omega arith) (sym (simp (lt-leb (threshold e) (threshold p) l, equal-yes _ _ m)) ∙ z))
+    by-more : Dec (offset p ≡ pos 2_147_483_647) → Dec (offset e ≡ offset p +ℤ pos 1) → threshold p < threshold e
+        → follows p e ≡ true
+    by-more (yes m) d l =
+        absurd (clash 7 (omega arith) (sym (simp (lt-leb (threshold e) (threshold p) l, equal-yes _ _ m)) ∙ z))
     by-more (no m) (yes q) l = simp (lt-ltb (threshold p) (threshold e) l, equal-yes _ _ q)
     by-more (no m) (no q) l =
         absurd (clash 4 (omega arith) (sym (simp (lt-leb (threshold e) (threshold p) l, equal-no _ _ m, equal-no _ _ q)) ∙ z))
 
     by-order : Dec (threshold p < threshold e) → follows p e ≡ true
     by-order (yes l) = by-more (ℤ-discrete (offset p) (pos 2_147_483_647)) (ℤ-discrete (offset e) (offset p +ℤ pos 1)) l
-    by-order (no l) = absurd (clash 3 (omega arith) (sym (simp (le-leb (threshold e) (threshold p) (omega (arith, l)))) ∙ z))
+    by-order (no l) =
+        absurd (clash 3 (omega arith) (sym (simp (le-leb (threshold e) (threshold p) (omega (arith, l)))) ∙ z))
 
 -- a list of which no entry is refused is valid
 pub passes-valid : (es : List Entry) → firstRefusal es ≡ 0 → valid es ≡ true
@@ -120,11 +125,12 @@ passes-valid (p ∷ e ∷ es) z =
     rw (zero-follows p e (first-zero p e es z)) (passes-valid (e ∷ es) (rest-zero p e es z))
 
 -- a list in which an entry does not follow the one before it is not
-pub not-valid : (before : List Entry) (p e : Entry) (behind : List Entry) → follows p e ≡ false → valid (before ++ p ∷ e ∷ behind) ≡ false
+pub not-valid : (before : List Entry) (p e : Entry) (rest : List Entry) → follows p e ≡ false
+    → valid (before ++ p ∷ e ∷ rest) ≡ false
 unfolding neighbours
-not-valid [] p e behind n = rw n
-not-valid (x ∷ []) p e behind n = and-false (follows x p) (not-valid [] p e behind n)
-not-valid (x ∷ y ∷ before) p e behind n = and-false (follows x y) (not-valid (y ∷ before) p e behind n)
+not-valid [] p e rest n = rw n
+not-valid (x ∷ []) p e rest n = and-false (follows x p) (not-valid [] p e rest n)
+not-valid (x ∷ y ∷ before) p e rest n = and-false (follows x y) (not-valid (y ∷ before) p e rest n)
 
 -- the test of neighbours, turned into the fact at each place
 pub at-each : (test : Entry → Entry → Bool) (es : List Entry) (d : Entry) → neighbours test es ≡ true
@@ -133,14 +139,16 @@ unfolding neighbours
 at-each test [] d v k l = absurd (omega arith)
 at-each test (p ∷ []) d v k l = absurd (omega arith)
 at-each test (p ∷ e ∷ es) d v zero l = both (test p e) (neighbours test (e ∷ es)) v .0
-at-each test (p ∷ e ∷ es) d v (suc k) l = at-each test (e ∷ es) d (both (test p e) (neighbours test (e ∷ es)) v .1) k (omega arith)
+at-each test (p ∷ e ∷ es) d v (suc k) l =
+    at-each test (e ∷ es) d (both (test p e) (neighbours test (e ∷ es)) v .1) k (omega arith)
 
 -- a valid list: each threshold is above the one before, and each offset one more
 pub record Follows (p e : Entry) : Type 0 where
   pub above : threshold p < threshold e
   pub more : offset e ≡ offset p +ℤ pos 1
 
-pub valid-at-each : (es : List Entry) (d : Entry) → valid es ≡ true → (k : ℕ) → suc k < length es → Follows (getD es k d) (getD es (suc k) d)
+pub valid-at-each : (es : List Entry) (d : Entry) → valid es ≡ true → (k : ℕ) → suc k < length es
+    → Follows (getD es k d) (getD es (suc k) d)
 valid-at-each es d v k l =
     let p = getD es k d in
     let e = getD es (suc k) d in

@@ -41,7 +41,7 @@ module _ (xs : List ℕ) (zs : List ℤ) where
       ∙ ap (λ (es : List Entry). es ++ slotAt xs zs (suc j) ∷ []) (one-more xs zs j (omega arith) (omega arith))
       ∙ append-assoc (slots xs zs j) (slotAt xs zs j ∷ []) (slotAt xs zs (suc j) ∷ [])
 
-  -- behind slots that pass, the slot at i is judged by the one before it
+  -- after slots that pass, the slot at i is judged by the one before it
   pub next-refusal : (i : ℕ) → 1 ≤ i → i < length xs → i < length zs → firstRefusal (slots xs zs i) ≡ 0
       → firstRefusal (slots xs zs (suc i)) ≡ stepRefusal (slotAt xs zs (i - 1)) (slotAt xs zs i)
   next-refusal zero p h k z = absurd (omega arith)
@@ -51,11 +51,12 @@ module _ (xs : List ℕ) (zs : List ℤ) where
       (joined-refusal (slots xs zs j) (slotAt xs zs j) (slotAt xs zs (suc j)) (rw (one-more xs zs j (omega arith) (omega arith)) at z))
 
   -- a slot that does not follow the one before it makes all invalid
-  pub invalid-at : (i n : ℕ) → 1 ≤ i → i < n → n ≤ length xs → n ≤ length zs → follows (slotAt xs zs (i - 1)) (slotAt xs zs i) ≡ false
+  pub invalid-at : (i n : ℕ) → 1 ≤ i → i < n → n ≤ length xs → n ≤ length zs
+      → follows (slotAt xs zs (i - 1)) (slotAt xs zs i) ≡ false
       → valid (slots xs zs n) ≡ false
   invalid-at zero n p l h k f = absurd (omega arith)
   invalid-at (suc j) n p l h k f =
       let s : suc j - 1 ≡ j = omega arith in
-      let behind = take (n - suc (suc j)) (drop (suc (suc j)) (paired xs zs)) in
+      let rest = take (n - suc (suc j)) (drop (suc (suc j)) (paired xs zs)) in
       rw (split (paired xs zs) (suc (suc j)) n (omega arith), last-two j (omega arith) (omega arith), append-assoc)
-      (not-valid (slots xs zs j) (slotAt xs zs j) (slotAt xs zs (suc j)) behind (rw s at f))
+      (not-valid (slots xs zs j) (slotAt xs zs j) (slotAt xs zs (suc j)) rest (rw s at f))

@@ -2,11 +2,11 @@
 use mathlib.Core.Path.{_≡_, sym, ap, _∙_}
 use Prim.Native.Nat.{ℕ}
 use Rattle.refusals.specs.Number.{numberOf}
-use Rattle.refusals.proofs.Tells.{number-tells}
+use Rattle.refusals.proofs.Tells.{number-tells, number-not-zero}
 use Rattle.scales.proofs.Tells.{tai-count-tells}
-use Rattle.tables.specs.Answers.{takenIn, extensionIn, lengthIn, emptyIn, entryIn, updateIn, offsetIn}
+use Rattle.tables.specs.Answers.{takenIn, tableAnswerIn, lengthIn, emptyIn, entryIn, updateIn, offsetIn}
 use Rattle.tables.specs.declared.LeapTable.{LeapTable}
-use Rattle.tables.specs.declared.Extension.{Extension}
+use Rattle.tables.specs.declared.TableAnswer.{TableAnswer}
 use Rattle.tables.specs.declared.Taken.{Taken}
 use Rattle.tables.specs.declared.Taken.the-variants as taken
 use Rattle.tables.specs.declared.LengthAnswer.{LengthAnswer}
@@ -19,7 +19,6 @@ use Rattle.tables.specs.declared.UpdateAnswer.{UpdateAnswer}
 use Rattle.tables.specs.declared.UpdateAnswer.the-variants as update
 use Rattle.tables.specs.declared.OffsetAnswer.{OffsetAnswer}
 use Rattle.tables.specs.declared.OffsetAnswer.the-variants as offset
-use Rattle.tables.proofs.RefusalNumbers.{number-not-zero}
 
 pub taken-tells : (x y : Taken) → takenIn x ≡ takenIn y → x ≡ y
 taken-tells taken.Done taken.Done e = cc
@@ -27,12 +26,16 @@ taken-tells taken.Done (taken.Refused r) e = absurd (number-not-zero r (sym e))
 taken-tells (taken.Refused r) taken.Done e = absurd (number-not-zero r e)
 taken-tells (taken.Refused r) (taken.Refused s) e = ap taken.Refused (number-tells r s e)
 
--- the answer and the table beside it
-pub extension-tells : (x y : Extension) → extensionIn x ≡ extensionIn y → x ≡ y
+-- the answer and the table
+pub extension-tells : (x y : TableAnswer) → tableAnswerIn x ≡ tableAnswerIn y → x ≡ y
 extension-tells x y e =
     let answers = taken-tells (x .answer) (y .answer) (ap (λ (v : ℕ × LeapTable). v .0) e) in
     let tables = ap (λ (v : ℕ × LeapTable). v .1) e in
-    ap (λ (a : Taken). record { answer = a; table = x .table }) answers ∙ ap (λ (t : LeapTable). record { answer = y .answer; table = t }) tables
+    ap (λ (a : Taken). record {
+      answer =
+          a;
+      table = x .table;
+    }) answers ∙ ap (λ (t : LeapTable). record { answer = y .answer; table = t }) tables
 
 pub length-tells : (x y : LengthAnswer) → lengthIn x ≡ lengthIn y → x ≡ y
 length-tells (length.Length n) (length.Length m) e = cc

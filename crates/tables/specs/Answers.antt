@@ -7,7 +7,7 @@ use Rattle.refusals.specs.Number.{numberOf}
 use Rattle.refusals.specs.Outcome.{Outcome, answered, refused}
 use Rattle.tables.specs.declared.LeapEntry.{LeapEntry}
 use Rattle.tables.specs.declared.LeapTable.{LeapTable}
-use Rattle.tables.specs.declared.Extension.{Extension}
+use Rattle.tables.specs.declared.TableAnswer.{TableAnswer}
 use Rattle.tables.specs.declared.Taken.{Taken}
 use Rattle.tables.specs.declared.Taken.the-variants as taken
 use Rattle.tables.specs.declared.LengthAnswer.{LengthAnswer}
@@ -18,6 +18,9 @@ use Rattle.tables.specs.declared.EntryAnswer.{EntryAnswer}
 use Rattle.tables.specs.declared.EntryAnswer.the-variants as entry
 use Rattle.tables.specs.declared.UpdateAnswer.{UpdateAnswer}
 use Rattle.tables.specs.declared.UpdateAnswer.the-variants as update
+use Rattle.tables.specs.declared.Lookup.{Lookup}
+use Rattle.tables.specs.declared.LookupAnswer.{LookupAnswer}
+use Rattle.tables.specs.declared.LookupAnswer.the-variants as lookup
 use Rattle.tables.specs.declared.OffsetAnswer.{OffsetAnswer}
 use Rattle.tables.specs.declared.OffsetAnswer.the-variants as offset
 
@@ -26,9 +29,9 @@ abbrev pub takenIn : Taken → ℕ
 takenIn taken.Done = 0
 takenIn (taken.Refused r) = numberOf r
 
--- the answer and the table beside it
-abbrev pub extensionIn : Extension → ℕ × LeapTable
-extensionIn x = (takenIn (x .answer), x .table)
+-- the answer and the table
+abbrev pub tableAnswerIn : TableAnswer → ℕ × LeapTable
+tableAnswerIn x = (takenIn (x .answer), x .table)
 
 abbrev pub lengthIn : LengthAnswer → Outcome ℕ
 lengthIn (length.Length n) = answered n
@@ -47,6 +50,10 @@ abbrev pub updateIn : UpdateAnswer → Outcome (Option ℕ)
 updateIn (update.At t) = answered (some (t .0))
 updateIn update.Nothing = answered none
 updateIn (update.Refused r) = refused (numberOf r)
+
+abbrev pub lookupIn : LookupAnswer → Outcome Lookup
+lookupIn (lookup.Told l) = answered l
+lookupIn (lookup.Refused r) = refused (numberOf r)
 
 abbrev pub offsetIn : OffsetAnswer → Outcome ℤ
 offsetIn (offset.Offset n) = answered n

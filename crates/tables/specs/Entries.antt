@@ -8,6 +8,7 @@ use lib.ListN.{length}
 use lib.IntN.{ℤ, pos, negsuc, _+ℤ_}
 use Rattle.counts.specs.Units.{second, daySeconds}
 use Rattle.tables.specs.declared.LeapEntry.{LeapEntry}
+use Rattle.tables.specs.declared.Lookup.{Lookup}
 
 -- from the TAI reading `threshold e` on, in nanoseconds, TAI is `offset e` seconds ahead of UTC
 abbrev pub Entry : Type 0
@@ -61,11 +62,18 @@ unfoldable pub lastUpTo : ℕ → Entry → List Entry → Entry
 lastUpTo t found [] = found
 lastUpTo t found (e ∷ es) = lastUpTo t (cond (leb (threshold e) t) e found) es
 
--- the offset in force at a TAI reading: 19 if there is no entry, the first offset below the first threshold,
--- else that of the last entry with threshold ≤ t
-unfoldable pub offsetAt : List Entry → ℕ → ℤ
-offsetAt [] t = pos 19
-offsetAt (e ∷ es) t = cond (ltb t (threshold e)) (offset e) (offset (lastUpTo t e (e ∷ es)))
+-- what a lookup tells of an entry
+abbrev pub telling : Entry → Lookup
+telling e = record { offset = offset e }
+
+-- what is in force at a TAI reading: the offset 19 if there is no entry, the first entry below the first threshold,
+-- else the last entry with threshold ≤ t
+unfoldable pub lookup : List Entry → ℕ → Lookup
+lookup [] t = record { offset = pos 19 }
+lookup (e ∷ es) t = telling (cond (ltb t (threshold e)) e (lastUpTo t e (e ∷ es)))
+
+abbrev pub offsetAt : List Entry → ℕ → ℤ
+offsetAt es t = lookup es t .offset
 
 -- the last entry of a list, and `e` where it is empty
 unfoldable pub lastOr : Entry → List Entry → Entry

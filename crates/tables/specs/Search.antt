@@ -8,7 +8,7 @@ pub record Rises (xs : List ℕ) (n : ℕ) : Type 0 where
   pub rises : (i j : ℕ) → i < j → j < n → getD xs i 0 < getD xs j 0
 
 -- of the first n thresholds the first k are at or below t, and the rest above it
-pub record Passed (xs : List ℕ) (n t k : ℕ) : Type 0 where
+pub record AtOrBelow (xs : List ℕ) (n t k : ℕ) : Type 0 where
   pub within : k ≤ n
   pub below : (i : ℕ) → i < k → getD xs i 0 ≤ t
   pub above : (i : ℕ) → k ≤ i → i < n → t < getD xs i 0

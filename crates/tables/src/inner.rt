@@ -1,23 +1,25 @@
 // What the calls share: work on lent thresholds and offsets, of which the first n count.
 ghost use mathlib.Core.Path.{_≡_};
 ghost use mathlib.Core.Bool.{true};
-ghost use Prim.Native.Nat.{ℕ, _+_, _≤_, _<_, min};
+ghost use Prim.Native.Nat.{ℕ, _+_, _-_, _≤_, _<_, min};
 ghost use lib.Dec.{eqb};
 ghost use lib.ListN.{length};
-ghost use Rattle.refusals.specs.Outcome.{answered};
-ghost use Rattle.tables.specs.Entries.{stepRefusal, firstRefusal, joinRefusal, offsetAt, valid};
+ghost use Rattle.refusals.specs.Outcome.{answered, changed};
+ghost use Rattle.tables.specs.Entries.{stepRefusal, firstRefusal, joinRefusal, lookup, valid};
 ghost use Rattle.tables.specs.Slots.{slotAt, slots, validSlots, ofValidSlots, joinedTo, tableOf};
-ghost use Rattle.tables.specs.Search.{Rises, Passed};
-ghost use Rattle.tables.specs.Answers.{takenIn, offsetIn};
+ghost use Rattle.tables.specs.Search.{Rises, AtOrBelow};
+ghost use Rattle.tables.specs.Answers.{takenIn, lookupIn, offsetIn};
 use crate::LeapEntry;
 use crate::LeapTable;
+use crate::Lookup;
+use crate::LookupAnswer;
 use crate::OffsetAnswer;
 use crate::RUNTIME_CAPACITY;
 use crate::Taken;
 use refusals::Refusal;
 
 // The largest offset, after which no entry can follow.
-const LARGEST_OFFSET: i32 = 2_147_483_647;
+const LARGEST_OFFSET: i32 = i32::MAX;
 
 // The offset in force at every reading of a table with no entry, that of the GPS epoch.
 pub const OFFSET_OF_NO_ENTRY: i32 = 19;
@@ -87,10 +89,10 @@ pub fn is_valid<'a>(thresholds: &'a [u64; 64], offsets: &'a [i32; 64], n: usize)
 }
 
 // How many of the first n thresholds are at or below a TAI reading, by halves: 7 probes for 64 of them.
-pub fn passed(thresholds: &[u64], n: usize, tai: u64) -> usize
+pub fn count_at_or_below(thresholds: &[u64], n: usize, tai: u64) -> usize
     requires { ⌜ n ≤ length (now thresholds) ⌝ }
     requires { ⌜ Rises (now thresholds) n ⌝ }
-    ensures { λ r. ⌜ Passed (now (thresholds .entry)) n tai r ⌝ }
+    ensures { λ r. ⌜ AtOrBelow (now (thresholds .entry)) n tai r ⌝ }
 {
     let mut low: usize = 0;
     let mut high: usize = n;
@@ -105,33 +107,57 @@ pub fn passed(thresholds: &[u64], n: usize, tai: u64) -> usize
     low
 }
 
-// The offset in force at a TAI reading.
-pub fn offset_at<'a>(thresholds: &'a [u64], offsets: &'a [i32], n: usize, tai: u64) -> i32
+// The place of the entry in force where `reached` thresholds are at or below the reading: the last of them, or the
+// first of all.
+pub fn place_in_force(reached: usize) -> usize
+    ensures { λ r. ⌜ r ≡ reached - 1 ⌝ }
+{
+    if reached == 0 { 0 } else { reached - 1 }
+}
+
+// What a lookup in the first n slots tells.
+pub fn look_up<'a>(thresholds: &'a [u64], offsets: &'a [i32], n: usize, tai: u64) -> Lookup
     requires { ⌜ n ≤ length (now thresholds) ⌝ }
     requires { ⌜ n ≤ length (now offsets) ⌝ }
     requires { ⌜ valid (slots (now thresholds) (now offsets) n) ≡ true ⌝ }
-    ensures { λ r. ⌜ r ≡ offsetAt (slots (now (thresholds .entry)) (now (offsets .entry)) n) tai ⌝ }
+    ensures { λ r. ⌜ r ≡ lookup (slots (now (thresholds .entry)) (now (offsets .entry)) n) tai ⌝ }
 {
     if n == 0 {
-        return OFFSET_OF_NO_ENTRY;
+        return Lookup {
+            offset: OFFSET_OF_NO_ENTRY,
+        };
     }
-    let k = passed(thresholds, n, tai);
-    if k == 0 { offsets[0] } else { offsets[k - 1] }
+    let place = place_in_force(count_at_or_below(thresholds, n, tai));
+    Lookup {
+        offset: offsets[place],
+    }
 }
 
-// The offset in force at a TAI reading, or 8 where the first n slots are not those of a valid table.
-pub fn checked_offset_at<'a>(
+// The same, or 8 where the first n slots are not those of a valid table.
+pub fn checked_look_up<'a>(
     thresholds: &'a [u64; 64],
     offsets: &'a [i32; 64],
     n: usize,
     tai: u64,
-) -> OffsetAnswer
-    ensures { λ r. ⌜ offsetIn r ≡ ofValidSlots (now (thresholds .entry)) (now (offsets .entry)) n (answered (offsetAt (slots (now (thresholds .entry)) (now (offsets .entry)) n) tai)) ⌝ }
+) -> LookupAnswer
+    ensures { λ r. ⌜ lookupIn r ≡
+        ofValidSlots (now (thresholds .entry)) (now (offsets .entry)) n
+        (answered (lookup (slots (now (thresholds .entry)) (now (offsets .entry)) n) tai)) ⌝ }
 {
     if is_valid(thresholds, offsets, n) {
-        OffsetAnswer::Offset(offset_at(thresholds, offsets, n, tai))
+        LookupAnswer::Told(look_up(thresholds, offsets, n, tai))
     } else {
-        OffsetAnswer::Refused(Refusal::BadTable)
+        LookupAnswer::Refused(Refusal::BadTable)
+    }
+}
+
+// The offset that a lookup tells.
+pub fn offset_in(found: LookupAnswer) -> OffsetAnswer
+    ensures { λ r. ⌜ offsetIn r ≡ changed (λ l. l .offset) (lookupIn found) ⌝ }
+{
+    match found {
+        LookupAnswer::Told(lookup) => OffsetAnswer::Offset(lookup.offset),
+        LookupAnswer::Refused(why) => OffsetAnswer::Refused(why),
     }
 }
 

@@ -1,5 +1,5 @@
 // Leap-second tables, after leap.rs: building, extension, and the offset TAI minus UTC in force at a TAI reading.
-// A caller may make a table by hand, so every call with a table tests it first, and refuses 8 where it is not valid.
+// A caller may make a table by hand, so every call refuses an invalid table with 8 before anything else.
 pub mod inner;
 pub mod table;
 
@@ -41,8 +41,8 @@ pub enum Taken {
     Refused(Refusal),
 }
 
-// The table afterwards, beside the answer.
-pub struct Extension {
+// The answer, and the table afterwards.
+pub struct TableAnswer {
     pub answer: Taken,
     pub table: LeapTable,
 }
@@ -68,6 +68,17 @@ pub enum EntryAnswer {
 pub enum UpdateAnswer {
     At(Tai),
     Nothing,
+    Refused(Refusal),
+}
+
+// What a lookup tells of the entry in force at a TAI reading.
+pub struct Lookup {
+    // TAI minus UTC in seconds
+    pub offset: i32,
+}
+
+pub enum LookupAnswer {
+    Told(Lookup),
     Refused(Refusal),
 }
 

@@ -1,4 +1,4 @@
-// The calls on a table. Each gives 8 first where the table is not valid.
+// The calls on a table. Each refuses an invalid table with 8 before anything else.
 ghost use mathlib.Core.Path.{_≡_};
 ghost use mathlib.Core.List.{[]};
 ghost use lib.Dec.{eqb};
@@ -7,15 +7,15 @@ ghost use Rattle.refusals.specs.Number.{numberOf};
 ghost use Rattle.refusals.specs.Outcome.{answered};
 ghost use Rattle.tables.specs.Entries.{offsetAt, currentOffset, lastUpdate};
 ghost use Rattle.tables.specs.Slots.{paired, entriesOf, ofValid, tableOf, extended, built};
-ghost use Rattle.tables.specs.Answers.{extensionIn, lengthIn, emptyIn, entryIn, updateIn, offsetIn};
+ghost use Rattle.tables.specs.Answers.{tableAnswerIn, lengthIn, emptyIn, entryIn, updateIn, offsetIn};
 use crate::EmptyAnswer;
 use crate::EntryAnswer;
-use crate::Extension;
 use crate::LeapEntry;
 use crate::LeapTable;
 use crate::LengthAnswer;
 use crate::OffsetAnswer;
 use crate::RUNTIME_CAPACITY;
+use crate::TableAnswer;
 use crate::Taken;
 use crate::UpdateAnswer;
 use crate::inner;
@@ -35,8 +35,8 @@ impl LeapTable {
     }
 
     // The table of thresholds and offsets side by side, up to the shorter length.
-    pub fn from_lists<'a>(thresholds: &'a [u64], offsets: &'a [i32]) -> Extension
-        ensures { λ r. ⌜ extensionIn r ≡ built (paired (now (thresholds .entry)) (now (offsets .entry))) ⌝ }
+    pub fn from_lists<'a>(thresholds: &'a [u64], offsets: &'a [i32]) -> TableAnswer
+        ensures { λ r. ⌜ tableAnswerIn r ≡ built (paired (now (thresholds .entry)) (now (offsets .entry))) ⌝ }
     {
         let n = inner::shorter(thresholds.len(), offsets.len());
         if n == 0 {
@@ -47,16 +47,16 @@ impl LeapTable {
         }
         match inner::first_refusal(thresholds, offsets, n) {
             Taken::Refused(why) => unbuilt(why),
-            Taken::Done => Extension {
+            Taken::Done => TableAnswer {
                 answer: Taken::Done,
                 table: inner::table_of(thresholds, offsets, n),
             },
         }
     }
 
-    // The table with an entry joined at its end; on a refusal the table as it came.
-    pub fn try_extend(self, entry: LeapEntry) -> Extension
-        ensures { λ r. ⌜ extensionIn r ≡ extended self entry ⌝ }
+    // The table with an entry joined at its end; on a refusal the table unchanged.
+    pub fn try_extend(self, entry: LeapEntry) -> TableAnswer
+        ensures { λ r. ⌜ tableAnswerIn r ≡ extended self entry ⌝ }
     {
         let n = self.len;
         if !inner::is_valid(&self.thresholds, &self.offsets, n) {
@@ -64,7 +64,7 @@ impl LeapTable {
         }
         match inner::joins(&self.thresholds, &self.offsets, n, entry) {
             Taken::Refused(why) => refused(why, self),
-            Taken::Done => Extension {
+            Taken::Done => TableAnswer {
                 answer: Taken::Done,
                 table: inner::joined(self, entry),
             },
@@ -144,21 +144,21 @@ impl LeapTable {
         ensures { λ r. ⌜ offsetIn r ≡ ofValid self (answered (offsetAt (entriesOf self) (tai .0))) ⌝ }
     {
         let n = self.len;
-        inner::checked_offset_at(&self.thresholds, &self.offsets, n, tai.0)
+        inner::offset_in(inner::checked_look_up(&self.thresholds, &self.offsets, n, tai.0))
     }
 }
 
-// A refusal, with the table as it is handed in.
-fn refused(why: Refusal, table: LeapTable) -> Extension
-    ensures { λ r. ⌜ extensionIn r ≡ (numberOf why, table) ⌝ }
+// A refusal, with the table unchanged.
+fn refused(why: Refusal, table: LeapTable) -> TableAnswer
+    ensures { λ r. ⌜ tableAnswerIn r ≡ (numberOf why, table) ⌝ }
 {
     let answer = Taken::Refused(why);
-    Extension { answer, table }
+    TableAnswer { answer, table }
 }
 
 // A refused building: the table with no entry.
-fn unbuilt(why: Refusal) -> Extension
-    ensures { λ r. ⌜ extensionIn r ≡ (numberOf why, tableOf []) ⌝ }
+fn unbuilt(why: Refusal) -> TableAnswer
+    ensures { λ r. ⌜ tableAnswerIn r ≡ (numberOf why, tableOf []) ⌝ }
 {
     refused(why, LeapTable::new())
 }

@@ -21,9 +21,9 @@ use Rattle.lent.proofs.inner.pass_over.Met as over-thm
 use Rattle.lent.proofs.inner.current.Symbol as read-def
 use Rattle.lent.proofs.inner.current.Symbol.{name as #read}
 use Rattle.lent.proofs.inner.current.Met as read-thm
-use Rattle.lent.proofs.Handed.{Passing, Reading}
+use Rattle.lent.proofs.PassAndReader.{Passing, Reading}
 use Rattle.lent.proofs.Readers.{meets}
-use Rattle.lent.proofs.ReadOff.{current-read}
+use Rattle.lent.proofs.AnswersByPass.{current-read}
 use Rattle.lent.proofs.current_tai_minus_utc.Key.{name as #this}
 use Rattle.lent.proofs.current_tai_minus_utc as this
 use Rattle.lent.proofs.current_tai_minus_utc.Statement as stated

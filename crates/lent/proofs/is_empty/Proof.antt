@@ -22,9 +22,9 @@ use Rattle.lent.proofs.inner.pass_over.Met as over-thm
 use Rattle.lent.proofs.inner.emptiness.Symbol as read-def
 use Rattle.lent.proofs.inner.emptiness.Symbol.{name as #read}
 use Rattle.lent.proofs.inner.emptiness.Met as read-thm
-use Rattle.lent.proofs.Handed.{Passing, Reading}
+use Rattle.lent.proofs.PassAndReader.{Passing, Reading}
 use Rattle.lent.proofs.Readers.{meets}
-use Rattle.lent.proofs.ReadOff.{emptiness-read}
+use Rattle.lent.proofs.AnswersByPass.{emptiness-read}
 use Rattle.lent.proofs.is_empty.Key.{name as #this}
 use Rattle.lent.proofs.is_empty as this
 use Rattle.lent.proofs.is_empty.Statement as stated

@@ -21,9 +21,9 @@ use Rattle.lent.proofs.inner.pass_over.Met as over-thm
 use Rattle.lent.proofs.inner.update.Symbol as read-def
 use Rattle.lent.proofs.inner.update.Symbol.{name as #read}
 use Rattle.lent.proofs.inner.update.Met as read-thm
-use Rattle.lent.proofs.Handed.{Passing, Reading}
+use Rattle.lent.proofs.PassAndReader.{Passing, Reading}
 use Rattle.lent.proofs.Readers.{meets}
-use Rattle.lent.proofs.ReadOff.{update-read}
+use Rattle.lent.proofs.AnswersByPass.{update-read}
 use Rattle.lent.proofs.last_update.Key.{name as #this}
 use Rattle.lent.proofs.last_update as this
 use Rattle.lent.proofs.last_update.Statement as stated

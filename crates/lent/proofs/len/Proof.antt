@@ -21,9 +21,9 @@ use Rattle.lent.proofs.inner.pass_over.Met as over-thm
 use Rattle.lent.proofs.inner.length.Symbol as read-def
 use Rattle.lent.proofs.inner.length.Symbol.{name as #read}
 use Rattle.lent.proofs.inner.length.Met as read-thm
-use Rattle.lent.proofs.Handed.{Passing, Reading}
+use Rattle.lent.proofs.PassAndReader.{Passing, Reading}
 use Rattle.lent.proofs.Readers.{meets}
-use Rattle.lent.proofs.ReadOff.{length-read}
+use Rattle.lent.proofs.AnswersByPass.{length-read}
 use Rattle.lent.proofs.len.Key.{name as #this}
 use Rattle.lent.proofs.len as this
 use Rattle.lent.proofs.len.Statement as stated

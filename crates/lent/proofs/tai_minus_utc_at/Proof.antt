@@ -41,8 +41,8 @@ use Rattle.lent.proofs.inner.pass_over as over
 use Rattle.lent.proofs.inner.pass_over.Symbol.{name as #over}
 use Rattle.lent.proofs.Values.{pv}
 use Rattle.lent.proofs.Passing.{Said}
-use Rattle.lent.proofs.Told.{calls-told, calls-spelled}
-use Rattle.lent.proofs.Handed.{Passing, to-over, hands-over, reader, reads, Reading, to-read, hands-read}
+use Rattle.lent.proofs.CallInWalk.{calls-told, calls-spelled}
+use Rattle.lent.proofs.PassAndReader.{Passing, to-over, hands-over, reader, reads, Reading, to-read, hands-read}
 use Rattle.refusals.specs.Outcome.{answered}
 use Rattle.scales.specs.declared.tai.Tai.{Tai}
 use Rattle.scales.proofs.tai.Tai as Z
@@ -54,7 +54,7 @@ use Rattle.tables.proofs.OffsetAnswer as R
 use Rattle.tables.proofs.OffsetAnswer.Laws as R′
 use Rattle.lent.specs.Lists.{ofValidList}
 use Rattle.lent.specs.Pass.{ofTaken}
-use Rattle.lent.proofs.ReadOff.{in-force-read}
+use Rattle.lent.proofs.AnswersByPass.{in-force-read}
 use Rattle.lent.proofs.inner.pass_over.Symbol as over-def
 use Rattle.lent.proofs.inner.pass_over.Met as over-thm
 use Rattle.lent.proofs.inner.in_force.Symbol as read-def
@@ -94,7 +94,8 @@ module _ {M : Type 1} (𝓤 : URA M) (H : Heap 𝓤) (A : Atoms 𝓤) (W : Given
     abbrev Post : Val → SProp 𝓤
     Post = walkOf 𝓤 H A this.ended stayed (this.clauses 𝓤 H A at-mem run) .post (((κ, tt), (q, tt), tt, (x, (z, tt)), at), tt)
 
-    exits : (r : OffsetAnswer) (v : Val) → offsetIn r ≡ ofValidList ys (answered (offsetAt ys (z .0))) → ent 𝓤 (sep 𝓤 (A .lft κ q) (sem 𝓤 H A (R.the-row .own r (v ∷ [])))) (Post v)
+    exits : (r : OffsetAnswer) (v : Val) → offsetIn r ≡ ofValidList ys (answered (offsetAt ys (z .0)))
+        → ent 𝓤 (sep 𝓤 (A .lft κ q) (sem 𝓤 H A (R.the-row .own r (v ∷ [])))) (Post v)
     exits r v is =
         qed W (‵ (flft κ q) ∷ ‵ (R.the-row .own r (v ∷ [])) ∷ []) ∵ suffices ! _ (ends-at 𝓤 H A this.ended stayed (this.clauses 𝓤 H A at-mem run) W (((κ, tt), (q, tt), tt, (x, (z, tt)), at), tt) v r (tt, (tt, tt)) (tt, (tt, tt))) $ says ! is $
         nothing ! $ move ! (1 ∷ 0 ∷ []) $ join ! $ frame ! $ nothing ! $ nothing ! $ fjoin ! $ nothing ! $ fjoin ! $ frame ! $ done !

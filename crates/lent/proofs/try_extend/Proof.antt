@@ -1,4 +1,5 @@
--- `try_extend`: the borrow is opened, the table is copied out, the extension by value is called on the copy, the table that it made is stored, and the borrow is closed at that table.
+-- `try_extend`: the borrow is opened, the table is copied out, the extension by value is called on the copy, the table
+-- that it made is stored, and the borrow is closed at that table.
 use mathlib.Core.Path.{_≡_, refl}
 use Prim.Native.Nat.{ℕ}
 use mathlib.Core.List.{[], _∷_, List}
@@ -34,25 +35,25 @@ use denote.Triple.Spec.{Meets, tripleOf}
 use denote.Triple.Table.{entered, cited}
 use denote.Triple.Walked.{says, Stays, stay-ref, stay-none, walkOf, goes-none, goes-ref, Walks, ends-at, walked, walk-meets}
 use denote.Exit.{yes}
-use Rattle.tables.specs.Answers.{extensionIn}
+use Rattle.tables.specs.Answers.{tableAnswerIn}
 use Rattle.tables.specs.Slots.{extended}
 use Rattle.tables.specs.declared.LeapEntry.{LeapEntry}
 use Rattle.tables.specs.declared.LeapTable.{LeapTable}
-use Rattle.tables.specs.declared.Extension.{Extension}
+use Rattle.tables.specs.declared.TableAnswer.{TableAnswer}
 use Rattle.tables.proofs.LeapEntry as E
 use Rattle.tables.proofs.LeapEntry.Laws as E′
 use Rattle.tables.proofs.LeapTable as T
 use Rattle.tables.proofs.LeapTable.Laws as T′
 use Rattle.tables.proofs.Taken as K
 use Rattle.tables.proofs.Taken.Laws as K′
-use Rattle.tables.proofs.Extension as X
-use Rattle.tables.proofs.Extension.Laws as X′
+use Rattle.tables.proofs.TableAnswer as X
+use Rattle.tables.proofs.TableAnswer.Laws as X′
 use Rattle.tables.proofs.LeapTable.try_extend as one
 use Rattle.tables.proofs.LeapTable.try_extend.Symbol as one-def
 use Rattle.tables.proofs.LeapTable.try_extend.Symbol.{name as #one}
 use Rattle.tables.proofs.LeapTable.try_extend.Met as one-thm
 use Rattle.lent.proofs.Values.{ev, tv}
-use Rattle.lent.proofs.Told.{calls-spelled}
+use Rattle.lent.proofs.CallInWalk.{calls-spelled}
 use Rattle.lent.proofs.try_extend.Key.{name as #this}
 use Rattle.lent.proofs.try_extend as this
 use Rattle.lent.proofs.try_extend.Statement as stated
@@ -76,7 +77,7 @@ module _ {M : Type 1} (𝓤 : URA M) (H : Heap 𝓤) (A : Atoms 𝓤) (W : Given
     abbrev Post : Val → SProp 𝓤
     Post = walkOf 𝓤 H A this.ended stayed (this.clauses 𝓤 H A at-mem run) .post (((κ, tt), (q, tt), tt, x, at), tt)
 
-    exits : (r : Extension) {v : Val} → extensionIn r ≡ extended h e → Is K.the-row (r .answer) (v ∷ [])
+    exits : (r : TableAnswer) {v : Val} → tableAnswerIn r ≡ extended h e → Is K.the-row (r .answer) (v ∷ [])
         → ent 𝓤 (⋆ 𝓤 H A (‵ (fobs γ (T.the-row .coded .code (r .table))) ∷ ‵ (fbor κ (Body (mem T.the-row) b o γ)) ∷ ‵ (flft κ q) ∷ [])) (Post v)
     exits r {v} is g =
         qed W (‵ (fobs γ (T.the-row .coded .code (r .table))) ∷ ‵ (fbor κ (Body (mem T.the-row) b o γ)) ∷ ‵ (flft κ q) ∷ []) ∵
@@ -108,7 +109,7 @@ module _ {M : Type 1} (𝓤 : URA M) (H : Heap 𝓤) (A : Atoms 𝓤) (W : Given
           -- [the table's cell; the open borrow; obs; auth; _4 at 4; _3 at 6; _2 at 8; _1 at 10; _0 at 12]
           assigns ! (of-opd ! (load ! (from ! (hop ! (look ! 10 refl) (stop !))) (look-raw ! 0 refl))) (from ! (stop !)) (init ! 4 refl (LL.lawful T.the-type T′.the-laws 𝓤 H A W .typed h _ gh .0)) $
           use0 W (raw (One .pre handed)) (hands gh) $
-          calls-spelled ! (fmOf 𝓤 H (W .laws) 𝓣) one.ended (one.clauses 𝓤 H A at-mem run) known handed (λ r ws. extensionIn r ≡ extended h e) (λ r ws. id⊢ 𝓤 _) (LL.val X.the-type X′.the-laws) (LL.tells X.the-type X′.the-laws)
+          calls-spelled ! (fmOf 𝓤 H (W .laws) 𝓣) one.ended (one.clauses 𝓤 H A at-mem run) known handed (λ r ws. tableAnswerIn r ≡ extended h e) (λ r ws. id⊢ 𝓤 _) (LL.val X.the-type X′.the-laws) (LL.tells X.the-type X′.the-laws)
           (and-then ! (load ! (from ! (stop !)) (look ! 5 refl)) (and-then ! (load ! (from ! (stop !)) (look ! 9 refl)) (no-more !))) (λ r ws is g. drop ! $ drop ! $
           land ! (from ! (stop !)) (init ! 6 refl (LL.lawful X.the-type X′.the-laws 𝓤 H A W .typed r _ g .0)) $
           assigns ! (of-opd ! (load ! (from ! (fld ! refl (stop !))) (look-in ! 6 (sub ! 1 refl (whole !))))) (from ! (hop ! (look ! 10 refl) (stop !)))

@@ -19,9 +19,9 @@ use Rattle.lent.proofs.inner.pass_over.Met as over-thm
 use Rattle.lent.proofs.inner.check.Symbol as read-def
 use Rattle.lent.proofs.inner.check.Symbol.{name as #read}
 use Rattle.lent.proofs.inner.check.Met as read-thm
-use Rattle.lent.proofs.Handed.{Passing, Reading}
+use Rattle.lent.proofs.PassAndReader.{Passing, Reading}
 use Rattle.lent.proofs.Readers.{meets}
-use Rattle.lent.proofs.ReadOff.{check-read}
+use Rattle.lent.proofs.AnswersByPass.{check-read}
 use Rattle.lent.proofs.try_from_slice.Key.{name as #this}
 use Rattle.lent.proofs.try_from_slice as this
 use Rattle.lent.proofs.try_from_slice.Statement as stated

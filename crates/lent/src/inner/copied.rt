@@ -3,7 +3,7 @@ ghost use mathlib.Core.Path.{_≡_};
 ghost use Prim.Native.Nat.{_≤_};
 ghost use lib.ListN.{take};
 ghost use Rattle.tables.specs.Slots.{extended};
-ghost use Rattle.tables.specs.Answers.{extensionIn};
+ghost use Rattle.tables.specs.Answers.{tableAnswerIn};
 ghost use Rattle.lent.specs.Copied.{answersIn, answersOf};
 use crate::current_tai_minus_utc;
 use crate::is_empty;
@@ -14,11 +14,11 @@ use crate::try_extend;
 use crate::try_from_slice;
 use scales::tai::Tai;
 use tables::EmptyAnswer;
-use tables::Extension;
 use tables::LeapEntry;
 use tables::LeapTable;
 use tables::LengthAnswer;
 use tables::OffsetAnswer;
+use tables::TableAnswer;
 use tables::Taken;
 use tables::UpdateAnswer;
 use tables::inner::shorter;
@@ -34,12 +34,12 @@ pub struct Answers {
 }
 
 // A table extended in place.
-pub fn extended_in_place(table: LeapTable, entry: LeapEntry) -> Extension
-    ensures { λ r. ⌜ extensionIn r ≡ extended table entry ⌝ }
+pub fn extended_in_place(table: LeapTable, entry: LeapEntry) -> TableAnswer
+    ensures { λ r. ⌜ tableAnswerIn r ≡ extended table entry ⌝ }
 {
     let mut grown = table;
     let answer = try_extend(&mut grown, entry);
-    Extension {
+    TableAnswer {
         answer,
         table: grown,
     }

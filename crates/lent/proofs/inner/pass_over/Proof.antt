@@ -1,4 +1,5 @@
--- `inner::pass_over`: each turn copies the entry at i out of the lent list and calls `pass_on` on the pass and the copy.
+-- `inner::pass_over`: each turn copies the entry at i out of the lent list and calls `pass_on` on the pass and the
+-- copy.
 use mathlib.Core.Path.{_≡_, refl, sym}
 use Prim.Native.Nat.{ℕ, _<_}
 use mathlib.Core.List.{List, [], _∷_}
@@ -47,7 +48,7 @@ use Rattle.lent.proofs.inner.Pass as P
 use Rattle.lent.proofs.inner.Pass.Laws as P′
 use Rattle.lent.proofs.Values.{pv, listᴹ}
 use Rattle.lent.proofs.Passing.{Said}
-use Rattle.lent.proofs.Told.{calls-spelled}
+use Rattle.lent.proofs.CallInWalk.{calls-spelled}
 use Rattle.lent.proofs.LentEntries.{Entries, entry-opens, entry-shuts, tests}
 use Rattle.lent.proofs.inner.begin as begin
 use Rattle.lent.proofs.inner.begin.Symbol as begin-def
@@ -121,10 +122,12 @@ module _ {M : Type 1} (𝓤 : URA M) (H : Heap 𝓤) (A : Atoms 𝓤) (W : Given
         abbrev Left : Out → SProp 𝓤
         Left = afterBlock 𝓤 H (afterSeq 𝓤 H (Wp 𝓤 H (𝓣 .C) (𝓣 .Λ) En mir.t-4 (atReturn 𝓤 H En Post)) (atReturn 𝓤 H En Post))
 
-        turn : (s : State t ys) → Sq W (I s) (runs (𝓣 .C) (𝓣 .Λ) En mir.turn-1 (anyQ (afterTurn 𝓤 H (Below 𝓤 H A ≺ I s) Left)))
+        turn : (s : State t ys)
+            → Sq W (I s) (runs (𝓣 .C) (𝓣 .Λ) En mir.turn-1 (anyQ (afterTurn 𝓤 H (Below 𝓤 H A ≺ I s) Left)))
         unfolding afterTurn
         turn s =
-            -- [the token; the entries; _8 at 2; _7 at 4; _6 at 6; _5 at 8; _4 at 10; _3 at 12; _2 at 14; _1 at 16; _0 at 18]
+            -- [the token; the entries; _8 at 2; _7 at 4; _6 at 6; _5 at 8; _4 at 10; _3 at 12; _2 at 14; _1 at 16; _0
+            -- at 18]
             assigns ! (of-opd ! (load ! (from ! (fld ! refl (stop !))) (look-in ! 16 (sub ! 1 refl (whole !))))) (from ! (stop !)) (init ! 8 refl (tt, record { fits = gn .0 })) $
             assigns ! (bin ! (load ! (from ! (stop !)) (look ! 10 refl)) (load ! (from ! (stop !)) (look ! 8 refl)) tt) (from ! (stop !)) (init ! 6 refl (tt, tt)) $
             tests ! (load ! (from ! (stop !)) (look ! 6 refl))
@@ -158,7 +161,19 @@ module _ {M : Type 1} (𝓤 : URA M) (H : Heap 𝓤) (A : Atoms 𝓤) (W : Given
       walk =
           qed W ((‵ (flft κ q) ⊛ ‵ ftrue) ∷ ‵ (owns (ShrSlice (named 0) κ E.the-row ∷ u64 ∷ []) (x, (t, tt)) at) ∷ []) ∵ enter ! (𝓣 .C) (𝓣 .Λ) code.function (sliceVal (b, o) n ∷ vint w64 t ∷ []) _ $
           alloc1 ! (λ l₀. alloc1 ! (λ l₁. alloc1 ! (λ l₂. alloc1 ! (λ l₃. alloc1 ! (λ l₄. alloc1 ! (λ l₅. alloc1 ! (λ l₆. alloc1 ! (λ l₇. alloc1 ! (λ l₈. alloc0 ! $ params1 ! $
-          pass1 ! (init ! 14 refl (tt, (tt, (record { fits = gn .0 }, tt)))) $ pass1 ! (init ! 12 refl (tt, record { fits = gt .1 })) $ pass0 ! $
+          pass1 ! (init ! 14 refl (
+            tt,
+            (
+              tt,
+              (
+                record {
+                  fits =
+                      gn .0;
+                },
+                tt,
+              ),
+            ),
+          )) $ pass1 ! (init ! 12 refl (tt, record { fits = gt .1 })) $ pass0 ! $
           use0 W (raw (Begin .pre (to-begin 𝓤 H A at-mem run t))) (hands-begin 𝓤 H A at-mem run W t gt) $
           -- [what `begin` asks; _8 at 1; …; _3 at 11; _2 at 13; …]
           calls-spelled ! (fmOf 𝓤 H (W .laws) 𝓣) begin.ended (begin.clauses 𝓤 H A at-mem run) known-begin (to-begin 𝓤 H A at-mem run t) (λ r ws. seenIn r ≡ begun t) (λ r ws. id⊢ 𝓤 _) pv (LL.tells P.the-type P′.the-laws)

@@ -2,23 +2,16 @@
 use borrow.Author.Needs.{needs}
 use borrow.Author.Tests.{le-leb, lt-leb}
 use Rattle.lent.proofs.ByAnswer.{good, bad}
-use Rattle.lent.proofs.inner.update.Statement.{statement}
-use Rattle.lent.proofs.inner.update.Tie as tie
+use Rattle.lent.proofs.inner.update as call
 
-enum-told : tie.Need-enum-told
-enum-told c = search needs
-
-returns : tie.Need-returns
+returns : call.Tie.Need-returns
 returns c = bad _ _ _ (c .enum-told .given .1)
 
-enum-told-2 : tie.Need-enum-told-2
-enum-told-2 c = search needs
-
-returns-2 : tie.Need-returns-2
+returns-2 : call.Tie.Need-returns-2
 returns-2 c = rw (le-leb _ _ (c .if1 .taken)) (good _ _ (c .before .before .enum-told2 .given .1))
 
-returns-3 : tie.Need-returns-3
+returns-3 : call.Tie.Need-returns-3
 returns-3 c = rw (lt-leb _ _ (c .if1 .left)) (good _ _ (c .before .before .enum-told2 .given .1))
 
-pub update-spec : {M : Type 1} → statement M
-update-spec = tie.close (tie.spec enum-told returns enum-told-2 returns-2 returns-3)
+pub update-spec : {M : Type 1} → call.Statement.statement M
+update-spec = call.Tie.close (call.Tie.spec (λ c. search needs) returns (λ c. search needs) returns-2 returns-3)

@@ -7,24 +7,21 @@ use Rattle.refusals.specs.Outcome.{answered}
 use Rattle.tables.proofs.FirstSlots.{there, past}
 use Rattle.tables.proofs.Checked.{Checked, checked, bad, good}
 use borrow.Author.Needs.{needs}
-use Rattle.tables.proofs.LeapTable.entry_at.Statement.{statement}
-use Rattle.tables.proofs.LeapTable.entry_at.Tie as tie
+use Rattle.tables.proofs.LeapTable.entry_at as call
 
-known : (c : tie.Else1) → Checked (c .before .before .before .before .before .args .t1)
+known : (c : call.Tie.Else1) → Checked (c .before .before .before .before .before .args .t1)
 known c = checked _ (search needs) (search needs) (sym (c .before .is-valid .ensures) ∙ not-false _ (c .if1 .left))
 
-is-valid-requires : tie.Need-is-valid-requires
-is-valid-requires c κs = search needs
+returns : call.Tie.Need-returns
+returns c =
+    bad (c .before .before .before .before .before .args .t1) _ (sym (c .before .is-valid .ensures) ∙ not-true _ (c .if1 .taken))
 
-returns : tie.Need-returns
-returns c = bad (c .before .before .before .before .before .args .t1) _ (sym (c .before .is-valid .ensures) ∙ not-true _ (c .if1 .taken))
-
-slot-requires : tie.Need-slot-requires
+slot-requires : call.Tie.Need-slot-requires
 slot-requires c κs =
     let k = known (c .before .before .before .before .before .before) in
     omega (arith, k)
 
-returns-2 : tie.Need-returns-2
+returns-2 : call.Tie.Need-returns-2
 returns-2 c =
     let e = c .before .before .before .before .before .before .before in
     let t = e .before .before .before .before .before .args .t1 in
@@ -35,7 +32,7 @@ returns-2 c =
     ∙ sym (there (t .thresholds) (t .offsets) (t .len) (k .in-thresholds) (k .in-offsets) place (c .before .before .before .before .before .before .if2 .taken)))
     ∙ good t _ (k .passes)
 
-returns-3 : tie.Need-returns-3
+returns-3 : call.Tie.Need-returns-3
 returns-3 c =
     let t = c .before .before .before .before .before .before .args .t1 in
     let place = c .before .before .before .before .before .before .args .place in
@@ -43,5 +40,5 @@ returns-3 c =
     ap answered (sym (past (t .thresholds) (t .offsets) (t .len) (k .in-thresholds) (k .in-offsets) place (c .if2 .left)))
     ∙ good t _ (k .passes)
 
-pub entry-at-spec : {M : Type 1} → statement M
-entry-at-spec = tie.close (tie.spec is-valid-requires returns slot-requires returns-2 returns-3)
+pub entry-at-spec : {M : Type 1} → call.Statement.statement M
+entry-at-spec = call.Tie.close (call.Tie.spec (λ c κs. search needs) returns slot-requires returns-2 returns-3)

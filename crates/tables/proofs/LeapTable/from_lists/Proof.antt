@@ -3,66 +3,44 @@ use mathlib.Core.Path.{_≡_, sym, ap, _∙_}
 use native.Mathlib.Omega.{arith}
 use denote.Ref.{now}
 use lib.ListN.{length}
+use Rattle.refusals.proofs.Tells.{number-not-zero}
 use Rattle.refusals.specs.Number.{numberOf}
 use Rattle.tables.specs.Entries.{firstRefusal}
 use Rattle.tables.specs.Slots.{paired, slots, tableOf}
 use Rattle.tables.specs.Answers.{takenIn}
 use Rattle.tables.specs.declared.LeapTable.{LeapTable}
-use Rattle.tables.proofs.RefusalNumbers.{number-not-zero}
 use Rattle.tables.proofs.FirstSlots.{whole, paired-length}
 use Rattle.tables.proofs.Growing.{none-built, too-many, entry-refused, all-taken}
 use borrow.Author.Needs.{needs}
-use Rattle.tables.proofs.LeapTable.from_lists.Statement.{statement}
-use Rattle.tables.proofs.LeapTable.from_lists.Tie as tie
-
-shorter-requires : tie.Need-shorter-requires
-shorter-requires c κs = search needs
+use Rattle.tables.proofs.LeapTable.from_lists as call
 
 -- the slots up to the shorter length are all that are given
-all : (c : tie.After-shorter)
+all : (c : call.Tie.After-shorter)
     → slots (now (c .before .before .args .thresholds)) (now (c .before .before .args .offsets)) (c .shorter .result)
     ≡ paired (now (c .before .before .args .thresholds)) (now (c .before .before .args .offsets))
 all c = rw (c .shorter .ensures) (whole (now (c .before .before .args .thresholds)) (now (c .before .before .args .offsets)))
 
-sized : (c : tie.After-shorter)
+sized : (c : call.Tie.After-shorter)
     → length (paired (now (c .before .before .args .thresholds)) (now (c .before .before .args .offsets))) ≡ c .shorter .result
 sized c =
-    paired-length (now (c .before .before .args .thresholds)) (now (c .before .before .args .offsets)) ∙ sym (c .shorter .ensures)
+    paired-length (now (c .before .before .args .thresholds)) (now (c .before .before .args .offsets))
+    ∙ sym (c .shorter .ensures)
 
-unbuilt-requires : tie.Need-unbuilt-requires
-unbuilt-requires c κs = search needs
-
-returns : tie.Need-returns
+returns : call.Tie.Need-returns
 returns c =
     let z = sized (c .before .before) in
     let a = c .before .before .before .before .args in
-    c .unbuilt .ensures ∙ none-built (paired (now (a .thresholds)) (now (a .offsets))) (omega (arith, z, c .before .if1 .taken))
+    c .unbuilt .ensures
+    ∙ none-built (paired (now (a .thresholds)) (now (a .offsets))) (omega (arith, z, c .before .if1 .taken))
 
-unbuilt-requires-2 : tie.Need-unbuilt-requires-2
-unbuilt-requires-2 c κs = search needs
-
-returns-2 : tie.Need-returns-2
+returns-2 : call.Tie.Need-returns-2
 returns-2 c =
     let z = sized (c .before .before .before) in
     let a = c .before .before .before .before .before .args in
-    c .unbuilt2 .ensures ∙ too-many (paired (now (a .thresholds)) (now (a .offsets))) (omega (arith, z, c .before .if2 .taken))
+    c .unbuilt2 .ensures
+    ∙ too-many (paired (now (a .thresholds)) (now (a .offsets))) (omega (arith, z, c .before .if2 .taken))
 
-first-refusal-requires : tie.Need-first-refusal-requires
-first-refusal-requires c κs = search needs
-
-enum-known-why : tie.Need-enum-known-why
-enum-known-why c = search needs
-
-unbuilt-requires-3 : tie.Need-unbuilt-requires-3
-unbuilt-requires-3 c κs = search needs
-
-enum-told : tie.Need-enum-told
-enum-told c = search needs
-
-table-of-requires : tie.Need-table-of-requires
-table-of-requires c κs = search needs
-
-returns-3 : tie.Need-returns-3
+returns-3 : call.Tie.Need-returns-3
 returns-3 c =
     let f = c .before .before .before .before in
     let z = sized (f .before .before .before) in
@@ -73,7 +51,7 @@ returns-3 c =
     (numberOf k) (number-not-zero k)
     (sym (ap takenIn (c .before .before .why .given .1)) ∙ f .first-refusal .ensures .0 ∙ ap firstRefusal (all (f .before .before .before)))
 
-returns-4 : tie.Need-returns-4
+returns-4 : call.Tie.Need-returns-4
 returns-4 c =
     let f = c .before .before .before in
     let z = sized (f .before .before .before) in
@@ -82,19 +60,19 @@ returns-4 c =
     ∙ all-taken (paired (now (a .thresholds)) (now (a .offsets))) (omega (arith, z, f .before .before .if1 .left)) (omega (arith, z, f .before .if2 .left))
     (sym (ap takenIn (c .before .enum-told .given .1)) ∙ f .first-refusal .ensures .0 ∙ ap firstRefusal (all (f .before .before .before)))
 
-pub from-lists-spec : {M : Type 1} → statement M
+pub from-lists-spec : {M : Type 1} → call.Statement.statement M
 from-lists-spec =
-    tie.close
-    (tie.spec
-    shorter-requires
-    unbuilt-requires
+    call.Tie.close
+    (call.Tie.spec
+    (λ c κs. search needs)
+    (λ c κs. search needs)
     returns
-    unbuilt-requires-2
+    (λ c κs. search needs)
     returns-2
-    first-refusal-requires
-    enum-known-why
-    unbuilt-requires-3
-    enum-told
-    table-of-requires
+    (λ c κs. search needs)
+    (λ c. search needs)
+    (λ c κs. search needs)
+    (λ c. search needs)
+    (λ c κs. search needs)
     returns-3
     returns-4)

@@ -4,23 +4,21 @@ use Rattle.refusals.specs.Outcome.{answered}
 use Rattle.tables.proofs.FirstSlots.{slots-length}
 use Rattle.tables.proofs.Checked.{Checked, checked, bad, good}
 use borrow.Author.Needs.{needs}
-use Rattle.tables.proofs.LeapTable.len.Statement.{statement}
-use Rattle.tables.proofs.LeapTable.len.Tie as tie
+use Rattle.tables.proofs.LeapTable.len as call
 
-known : (c : tie.Then1) → Checked (c .before .before .before .before .before .args .t1)
+known : (c : call.Tie.Then1) → Checked (c .before .before .before .before .before .args .t1)
 known c = checked _ (search needs) (search needs) (sym (c .before .is-valid .ensures) ∙ c .if1 .taken)
 
-is-valid-requires : tie.Need-is-valid-requires
-is-valid-requires c κs = search needs
-
-returns : tie.Need-returns
+returns : call.Tie.Need-returns
 returns c =
     let t = c .before .before .before .before .before .args .t1 in
     let k = known c in
-    ap answered (sym (slots-length (t .thresholds) (t .offsets) (t .len) (k .in-thresholds) (k .in-offsets))) ∙ good t _ (k .passes)
+    ap answered (sym (slots-length (t .thresholds) (t .offsets) (t .len) (k .in-thresholds) (k .in-offsets)))
+    ∙ good t _ (k .passes)
 
-returns-2 : tie.Need-returns-2
-returns-2 c = bad (c .before .before .before .before .before .args .t1) _ (sym (c .before .is-valid .ensures) ∙ c .if1 .left)
+returns-2 : call.Tie.Need-returns-2
+returns-2 c =
+    bad (c .before .before .before .before .before .args .t1) _ (sym (c .before .is-valid .ensures) ∙ c .if1 .left)
 
-pub len-spec : {M : Type 1} → statement M
-len-spec = tie.close (tie.spec is-valid-requires returns returns-2)
+pub len-spec : {M : Type 1} → call.Statement.statement M
+len-spec = call.Tie.close (call.Tie.spec (λ c κs. search needs) returns returns-2)

@@ -1,4 +1,5 @@
--- `inner::first_refusal` finds the first refusal, and tells whether the slots are valid: the slots passed so far are refused nowhere.
+-- `inner::first_refusal` finds the first refusal, and tells whether the slots are valid: the slots passed so far are
+-- refused nowhere.
 use mathlib.Core.Path.{_≡_, sym, ap, _∙_}
 use Prim.Native.Nat.{ℕ, suc, _-_, _≤_}
 use native.Mathlib.Omega.{arith}
@@ -9,41 +10,25 @@ use mathlib.Core.Bool.{false}
 use denote.Ref.{now}
 use mir.Syntax.{w32}
 use mir.Val.{SFits}
+use Rattle.refusals.proofs.Tells.{number-not-zero}
 use Rattle.tables.specs.Entries.{offset, follows, valid, firstRefusal}
 use Rattle.tables.specs.Slots.{paired, slots}
 use Rattle.tables.specs.Answers.{takenIn}
-use Rattle.tables.proofs.RefusalNumbers.{number-not-zero}
 use Rattle.tables.proofs.Scanned.{one-passes, refused-early, passes-early, next-refusal, invalid-at}
 use Rattle.tables.proofs.Neighbours.{step-follows, passes-valid}
-use Rattle.tables.proofs.inner.first_refusal.Statement.{statement}
-use Rattle.tables.proofs.inner.first_refusal.Tie as tie
+use Rattle.tables.proofs.inner.first_refusal as call
 
-abbrev Inv-loop : tie.InvT-loop
+abbrev Inv-loop : call.Tie.InvT-loop
 Inv-loop thresholds offsets n i₀ i = (1 ≤ i) × (firstRefusal (slots thresholds offsets i) ≡ 0)
 
-abbrev μ-loop : tie.MeasureT-loop
+abbrev μ-loop : call.Tie.MeasureT-loop
 μ-loop thresholds offsets n i₀ i = n - i
 
-loop-holds : tie.Need-loop-holds Inv-loop μ-loop
+loop-holds : call.Tie.Need-loop-holds Inv-loop μ-loop
 loop-holds c = (search needs, one-passes (paired (now (c .before .args .thresholds)) (now (c .before .args .offsets))))
 
-sub-slot : tie.Need-sub-slot Inv-loop μ-loop
-sub-slot c = search needs
-
-slot-requires : tie.Need-slot-requires Inv-loop μ-loop
-slot-requires c κs = search needs
-
-slot-requires-2 : tie.Need-slot-requires-2 Inv-loop μ-loop
-slot-requires-2 c κs = search needs
-
-step-requires : tie.Need-step-requires Inv-loop μ-loop
-step-requires c κs = search needs
-
-enum-known-why : tie.Need-enum-known-why Inv-loop μ-loop
-enum-known-why c = search needs
-
 -- what `step` says of the last two slots is the first refusal of one slot more
-next : (c : tie.After-step Inv-loop μ-loop)
+next : (c : call.Tie.After-step Inv-loop μ-loop)
     → firstRefusal (slots (now (c .before .before .before .before .before .before .args .thresholds)) (now (c .before .before .before .before .before .before .args .offsets)) (suc (c .before .before .before .before .loop .i)))
     ≡ takenIn (c .step .result)
 next c =
@@ -53,7 +38,7 @@ next c =
     (next-refusal (now (a .thresholds)) (now (a .offsets)) (at .loop .i) (at .loop .inv .0) (omega arith) (omega arith) (at .loop .inv .1))
 
 -- the last two slots are refused, so all are invalid
-refused-invalid : (c : tie.After-step Inv-loop μ-loop) {k : ℕ} → takenIn (c .step .result) ≡ k → (k ≡ 0 → ⊥)
+refused-invalid : (c : call.Tie.After-step Inv-loop μ-loop) {k : ℕ} → takenIn (c .step .result) ≡ k → (k ≡ 0 → ⊥)
     → valid (slots (now (c .before .before .before .before .before .before .args .thresholds)) (now (c .before .before .before .before .before .before .args .offsets)) (c .before .before .before .before .before .before .args .n)) ≡ false
 refused-invalid c {k} e nonzero =
     let at = c .before .before .before .before in
@@ -66,7 +51,7 @@ refused-invalid c {k} e nonzero =
     invalid-at (now (a .thresholds)) (now (a .offsets)) (at .loop .i) (a .n) (at .loop .inv .0) l (search needs) (search needs)
     (rw (c .before .slot2 .ensures, c .before .before .slot .ensures) at refused)
 
-returns : tie.Need-returns Inv-loop μ-loop
+returns : call.Tie.Need-returns Inv-loop μ-loop
 returns c =
     let at = c .before .before .before .before .before .before .before in
     let a = at .before .before .args in
@@ -74,42 +59,34 @@ returns c =
     let e = next (c .before .before .before) ∙ ap takenIn (c .before .why .given .1) in
     let nonzero = number-not-zero (c .before .why .given .0 .0) in (
       sym (refused-early (paired (now (a .thresholds)) (now (a .offsets))) (suc (at .loop .i)) (a .n) h (λ z. nonzero (sym e ∙ z)) ∙ e),
-      ne-eqb _ 0 nonzero ∙ sym (refused-invalid (c .before .before .before) (ap takenIn (c .before .why .given .1)) nonzero),
+      ne-eqb _ 0 nonzero
+          ∙ sym (refused-invalid (c .before .before .before) (ap takenIn (c .before .why .given .1)) nonzero),
     )
 
-enum-told : tie.Need-enum-told Inv-loop μ-loop
-enum-told c = search needs
-
-add-i : tie.Need-add-i Inv-loop μ-loop
-add-i c = search needs
-
-loop-less : tie.Need-loop-less Inv-loop μ-loop
-loop-less c = search needs
-
-loop-again : tie.Need-loop-again Inv-loop μ-loop
+loop-again : call.Tie.Need-loop-again Inv-loop μ-loop
 loop-again c = (search needs, rw add-one (next (c .before .before) ∙ ap takenIn (c .enum-told .given .1)))
 
-returns-2 : tie.Need-returns-2 Inv-loop μ-loop
+returns-2 : call.Tie.Need-returns-2 Inv-loop μ-loop
 returns-2 c =
     let a = c .before .before .before .args in
     let z = passes-early (paired (now (a .thresholds)) (now (a .offsets))) (a .n) (c .before .loop .i) (c .loop-test .left) (c .before .loop .inv .1) in
     (sym z, sym (passes-valid (slots (now (a .thresholds)) (now (a .offsets)) (a .n)) z))
 
-pub first-refusal-spec : {M : Type 1} → statement M
+pub first-refusal-spec : {M : Type 1} → call.Statement.statement M
 first-refusal-spec =
-    tie.close
-    (tie.spec
+    call.Tie.close
+    (call.Tie.spec
     Inv-loop
     μ-loop
     loop-holds
-    sub-slot
-    slot-requires
-    slot-requires-2
-    step-requires
-    enum-known-why
+    (λ c. search needs)
+    (λ c κs. search needs)
+    (λ c κs. search needs)
+    (λ c κs. search needs)
+    (λ c. search needs)
     returns
-    enum-told
-    add-i
-    loop-less
+    (λ c. search needs)
+    (λ c. search needs)
+    (λ c. search needs)
     loop-again
     returns-2)

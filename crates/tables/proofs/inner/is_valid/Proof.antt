@@ -2,35 +2,25 @@
 use mathlib.Core.Path.{sym, ap, _∙_}
 use borrow.Author.Tests.{le-leb, lt-leb, ne-eqb}
 use lib.Dec.{eqb}
+use Rattle.refusals.proofs.Tells.{number-not-zero}
 use Rattle.tables.specs.Answers.{takenIn}
 use Rattle.tables.specs.declared.Taken.{Taken}
-use Rattle.tables.proofs.RefusalNumbers.{number-not-zero}
 use borrow.Author.Needs.{needs}
-use Rattle.tables.proofs.inner.is_valid.Statement.{statement}
-use Rattle.tables.proofs.inner.is_valid.Tie as tie
+use Rattle.tables.proofs.inner.is_valid as call
 
-returns : tie.Need-returns
+returns : call.Tie.Need-returns
 returns c = rw (lt-leb (c .before .args .n) 64 (c .if1 .taken))
 
-first-refusal-requires : tie.Need-first-refusal-requires
-first-refusal-requires c κs = search needs
-
-enum-told : tie.Need-enum-told
-enum-told c = search needs
-
-enum-told-2 : tie.Need-enum-told-2
-enum-told-2 c = search needs
-
-returns-2 : tie.Need-returns-2
+returns-2 : call.Tie.Need-returns-2
 returns-2 c =
     rw (le-leb (c .before .before .before .before .before .before .args .n) 64 (c .before .before .before .before .before .if1 .left))
     (sym (ap (λ (r : Taken). eqb (takenIn r) 0) (c .enum-told .given .1)) ∙ c .before .before .first-refusal .ensures .1)
 
-returns-3 : tie.Need-returns-3
+returns-3 : call.Tie.Need-returns-3
 returns-3 c =
     rw (le-leb (c .before .before .before .before .before .before .args .n) 64 (c .before .before .before .before .before .if1 .left))
     (sym (ap (λ (r : Taken). eqb (takenIn r) 0) (c .enum-told2 .given .1) ∙ ne-eqb _ 0 (number-not-zero (c .enum-told2 .given .0 .0))) ∙ c .before .before .first-refusal .ensures .1)
 
-pub is-valid-spec : {M : Type 1} → statement M
+pub is-valid-spec : {M : Type 1} → call.Statement.statement M
 is-valid-spec =
-    tie.close (tie.spec returns first-refusal-requires enum-told enum-told-2 returns-2 returns-3)
+    call.Tie.close (call.Tie.spec returns (λ c κs. search needs) (λ c. search needs) (λ c. search needs) returns-2 returns-3)

@@ -4,27 +4,17 @@ use native.Mathlib.Omega.{arith}
 use denote.Ref.{now}
 use Rattle.tables.proofs.Joining.{empty-takes, full-slots, by-last-slot}
 use borrow.Author.Needs.{needs}
-use Rattle.tables.proofs.inner.joins.Statement.{statement}
-use Rattle.tables.proofs.inner.joins.Tie as tie
+use Rattle.tables.proofs.inner.joins as call
 
-returns : tie.Need-returns
+returns : call.Tie.Need-returns
 returns c = rw (c .if1 .taken) (sym (empty-takes (c .before .before .args .entry)))
 
-returns-2 : tie.Need-returns-2
+returns-2 : call.Tie.Need-returns-2
 returns-2 c =
     let a = c .before .before .before .args in
     sym (full-slots (now (a .thresholds)) (now (a .offsets)) (a .n) (search needs) (search needs) (a .entry) (c .if2 .taken))
 
-sub-slot : tie.Need-sub-slot
-sub-slot c = search needs
-
-slot-requires : tie.Need-slot-requires
-slot-requires c κs = search needs
-
-step-requires : tie.Need-step-requires
-step-requires c κs = search needs
-
-returns-3 : tie.Need-returns-3
+returns-3 : call.Tie.Need-returns-3
 returns-3 c =
     let s = c .before .before .before .before .before in
     let a = s .args in
@@ -33,5 +23,5 @@ returns-3 c =
     (by-last-slot (now (a .thresholds)) (now (a .offsets)) (a .n) (search needs) (search needs) (a .entry)
     (omega (arith, c .before .before .before .if1 .left)) (c .before .before .if2 .left)))
 
-pub joins-spec : {M : Type 1} → statement M
-joins-spec = tie.close (tie.spec returns returns-2 sub-slot slot-requires step-requires returns-3)
+pub joins-spec : {M : Type 1} → call.Statement.statement M
+joins-spec = call.Tie.close (call.Tie.spec returns returns-2 (λ c. search needs) (λ c κs. search needs) (λ c κs. search needs) returns-3)

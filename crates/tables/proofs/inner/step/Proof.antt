@@ -1,4 +1,5 @@
--- `inner::step` gives the number of the rule between neighbours: the bits of two offsets that fit tell whether they are equal.
+-- `inner::step` gives the number of the rule between neighbours: the bits of two offsets that fit tell whether they are
+-- equal.
 use mathlib.Core.Path.{_≡_, ap}
 use borrow.Author.Needs.{needs}
 use borrow.Author.Tests.{le-leb, lt-leb}
@@ -9,41 +10,42 @@ use mir.Facts.{toZ-ofZ, sfits-lit}
 use Rattle.counts.proofs.Signed.{bits-tell}
 use Rattle.tables.specs.Entries.{offset}
 use Rattle.tables.proofs.Integers.{equal-yes, equal-no, more-fits}
-use Rattle.tables.proofs.inner.step.Statement.{statement}
-use Rattle.tables.proofs.inner.step.Tie as tie
+use Rattle.tables.proofs.inner.step as call
 
-before-fits : (c : tie.Start) → SFits w32 (offset (c .args .before))
+before-fits : (c : call.Tie.Start) → SFits w32 (offset (c .args .before))
 before-fits c = search needs
 
-next-fits : (c : tie.Start) → SFits w32 (offset (c .args .next))
+next-fits : (c : call.Tie.Start) → SFits w32 (offset (c .args .next))
 next-fits c = search needs
 
-largest : (c : tie.Then2) → offset (c .before .before .before .before .before .args .before) ≡ pos 2147483647
+largest : (c : call.Tie.Then2) → offset (c .before .before .before .before .before .args .before) ≡ pos 2147483647
 largest c =
     bits-tell (before-fits (c .before .before .before .before .before)) (sfits-lit {w = w32} {z = pos 2147483647} tt)
     (c .if2 .taken)
 
-not-largest : (c : tie.Else2) → offset (c .before .before .before .before .before .args .before) ≡ pos 2147483647 → ⊥
+not-largest : (c : call.Tie.Else2) → offset (c .before .before .before .before .before .args .before) ≡ pos 2147483647
+    → ⊥
 not-largest c e = c .if2 .left (ap (ofZ w32) e)
 
-one-more-fits : (c : tie.Else2) → SFits w32 (offset (c .before .before .before .before .before .args .before) +ℤ pos 1)
+one-more-fits : (c : call.Tie.Else2)
+    → SFits w32 (offset (c .before .before .before .before .before .args .before) +ℤ pos 1)
 one-more-fits c =
     let s = c .before .before .before .before .before in
     more-fits (offset (s .args .before)) (before-fits s) (not-largest c)
 
-read-back : (c : tie.Start) → toZ w32 (ofZ w32 (offset (c .args .before))) ≡ offset (c .args .before)
+read-back : (c : call.Tie.Start) → toZ w32 (ofZ w32 (offset (c .args .before))) ≡ offset (c .args .before)
 read-back c = toZ-ofZ (before-fits c)
 
-returns : tie.Need-returns
+returns : call.Tie.Need-returns
 returns c = simp (le-leb _ _ (c .if1 .taken))
 
-returns-2 : tie.Need-returns-2
+returns-2 : call.Tie.Need-returns-2
 returns-2 c = simp (lt-leb _ _ (c .before .before .if1 .left), equal-yes _ _ (largest c))
 
-add-one-more : tie.Need-add-one-more
+add-one-more : call.Tie.Need-add-one-more
 add-one-more c = rw (read-back (c .before .before .before .before .before)) (one-more-fits c)
 
-returns-3 : tie.Need-returns-3
+returns-3 : call.Tie.Need-returns-3
 returns-3 c =
     let m = c .before .before in
     let s = m .before .before .before .before .before in
@@ -53,7 +55,7 @@ returns-3 c =
       equal-yes _ _ (bits-tell (next-fits s) (one-more-fits m) (rw (read-back s) at (c .if3 .taken))),
     )
 
-returns-4 : tie.Need-returns-4
+returns-4 : call.Tie.Need-returns-4
 returns-4 c =
     let m = c .before .before in
     let s = m .before .before .before .before .before in
@@ -63,5 +65,5 @@ returns-4 c =
       equal-no (offset (s .args .next)) (offset (s .args .before) +ℤ pos 1) (λ e. rw (read-back s) at (c .if3 .left) (ap (ofZ w32) e)),
     )
 
-pub step-spec : {M : Type 1} → statement M
-step-spec = tie.close (tie.spec returns returns-2 add-one-more returns-3 returns-4)
+pub step-spec : {M : Type 1} → call.Statement.statement M
+step-spec = call.Tie.close (call.Tie.spec returns returns-2 add-one-more returns-3 returns-4)

@@ -3,19 +3,12 @@ use mathlib.Core.Path.{ap, _∙_}
 use Rattle.refusals.specs.Number.{numberOf}
 use Rattle.tables.specs.declared.LeapTable.{LeapTable}
 use borrow.Author.Needs.{needs}
-use Rattle.tables.proofs.table.unbuilt.Statement.{statement}
-use Rattle.tables.proofs.table.unbuilt.Tie as tie
+use Rattle.tables.proofs.table.unbuilt as call
 
-new-requires : tie.Need-new-requires
-new-requires c κs = search needs
-
-refused-requires : tie.Need-refused-requires
-refused-requires c κs = search needs
-
-returns : tie.Need-returns
+returns : call.Tie.Need-returns
 returns c =
     c .refused .ensures
     ∙ ap (λ (t : LeapTable). (numberOf (c .before .before .args .why), t)) (c .before .new .ensures)
 
-pub unbuilt-spec : {M : Type 1} → statement M
-unbuilt-spec = tie.close (tie.spec new-requires refused-requires returns)
+pub unbuilt-spec : {M : Type 1} → call.Statement.statement M
+unbuilt-spec = call.Tie.close (call.Tie.spec (λ c κs. search needs) (λ c κs. search needs) returns)

@@ -10,8 +10,7 @@ use lib.ListN.{length, take}
 use lib.Seq.{take-all}
 use Rattle.tables.specs.Entries.{Entry}
 use Rattle.lent.specs.Copied.{answersOf}
-use Rattle.lent.proofs.inner.copied.answers_of_first.Statement.{statement}
-use Rattle.lent.proofs.inner.copied.answers_of_first.Tie as tie
+use Rattle.lent.proofs.inner.copied.answers_of_first as call
 
 same : (n : ℕ) (es : List Entry) → length es ≡ 70 → take (min n 70) es ≡ take n es
 same n es l = by-order (decLe n 70)
@@ -22,20 +21,14 @@ same n es l = by-order (decLe n 70)
         let more : 70 ≤ n = omega (arith, h) in
         ap (λ (m : ℕ). take m es) (min-eq-right more) ∙ take-all 70 es (omega arith) ∙ sym (take-all n es (omega arith))
 
-shorter-requires : tie.Need-shorter-requires
-shorter-requires c κs = search needs
-
-lent-to-all-requires : tie.Need-lent-to-all-requires
-lent-to-all-requires c κs = search needs
-
-held : (c : tie.Start) → length (c .args .entries) ≡ 70
+held : (c : call.Tie.Start) → length (c .args .entries) ≡ 70
 held c = search needs
 
-returns : tie.Need-returns
+returns : call.Tie.Need-returns
 returns c =
     let s = c .before .before in
     c .lent-to-all .ensures
     ∙ ap (λ (es : List Entry). answersOf es (s .args .tai .0)) (ap (λ (m : ℕ). take m (s .args .entries)) (c .before .shorter .ensures) ∙ same (s .args .n) (s .args .entries) (held s))
 
-pub answers-of-first-spec : {M : Type 1} → statement M
-answers-of-first-spec = tie.close (tie.spec shorter-requires lent-to-all-requires returns)
+pub answers-of-first-spec : {M : Type 1} → call.Statement.statement M
+answers-of-first-spec = call.Tie.close (call.Tie.spec (λ c κs. search needs) (λ c κs. search needs) returns)

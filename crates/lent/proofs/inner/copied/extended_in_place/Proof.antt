@@ -1,4 +1,5 @@
--- `inner::copied::extended_in_place`: a local table is lent for a lifetime that is made for the call, and is back at the last value that the callee's contract says.
+-- `inner::copied::extended_in_place`: a local table is lent for a lifetime that is made for the call, and is back at
+-- the last value that the callee's contract says.
 use mathlib.Core.Path.{_≡_, refl}
 use Prim.Native.Nat.{ℕ}
 use mathlib.Core.List.{[], _∷_, List}
@@ -35,11 +36,11 @@ use denote.Triple.Spec.{Meets, tripleOf}
 use denote.Triple.Table.{entered, cited}
 use denote.Triple.Walked.{says, Stays, stay-dropped, walkOf, goes-dropped, Walks, ends-at, walked, walk-meets}
 use denote.Exit.{yes}
-use Rattle.tables.specs.Answers.{takenIn, extensionIn}
+use Rattle.tables.specs.Answers.{takenIn, tableAnswerIn}
 use Rattle.tables.specs.Slots.{extended}
 use Rattle.tables.specs.declared.LeapEntry.{LeapEntry}
 use Rattle.tables.specs.declared.LeapTable.{LeapTable}
-use Rattle.tables.specs.declared.Extension.{Extension}
+use Rattle.tables.specs.declared.TableAnswer.{TableAnswer}
 use Rattle.tables.specs.declared.Taken.{Taken}
 use Rattle.tables.proofs.LeapEntry as E
 use Rattle.tables.proofs.LeapEntry.Laws as E′
@@ -47,10 +48,10 @@ use Rattle.tables.proofs.LeapTable as T
 use Rattle.tables.proofs.LeapTable.Laws as T′
 use Rattle.tables.proofs.Taken as K
 use Rattle.tables.proofs.Taken.Laws as K′
-use Rattle.tables.proofs.Extension as X
-use Rattle.tables.proofs.Extension.Laws as X′
+use Rattle.tables.proofs.TableAnswer as X
+use Rattle.tables.proofs.TableAnswer.Laws as X′
 use Rattle.lent.proofs.Values.{ev, tv}
-use Rattle.lent.proofs.Told.{calls-spelled}
+use Rattle.lent.proofs.CallInWalk.{calls-spelled}
 use Rattle.lent.proofs.InALocal.{table-in, table-out}
 use Rattle.lent.proofs.try_extend as one
 use Rattle.lent.proofs.try_extend.Symbol as one-def
@@ -64,15 +65,16 @@ use Rattle.lent.proofs.inner.copied.extended_in_place.Code as code
 abbrev stayed : Stays (this.ended .signature .params) (this.ended .kept)
 stayed = (stay-dropped (plain (λ _. T.the-row)) yes, (stay-dropped (plain (λ _. E.the-row)) yes, tt))
 
-abbrev xv : Extension → Val
+abbrev xv : TableAnswer → Val
 xv x = LL.val X.the-type X′.the-laws x
 
--- the answer and the table beside it
-abbrev beside : Taken → LeapTable → Extension
-beside r t = record { answer = r; table = t }
+-- the answer and the table
+abbrev pair : Taken → LeapTable → TableAnswer
+pair r t = record { answer = r; table = t }
 
-is-beside : (r : Taken) (t : LeapTable) → Is K.the-row r (EL.val K.the-type K′.the-laws r ∷ []) → Is T.the-row t (tv t ∷ []) → Is X.the-row (beside r t) (xv (beside r t) ∷ [])
-is-beside r t g gt = LL.owes X.the-type X′.the-laws (beside r t) (g, (gt, tt))
+is-pair : (r : Taken) (t : LeapTable) → Is K.the-row r (EL.val K.the-type K′.the-laws r ∷ [])
+    → Is T.the-row t (tv t ∷ []) → Is X.the-row (pair r t) (xv (pair r t) ∷ [])
+is-pair r t g gt = LL.owes X.the-type X′.the-laws (pair r t) (g, (gt, tt))
 
 module _ {M : Type 1} (𝓤 : URA M) (H : Heap 𝓤) (A : Atoms 𝓤) (W : Given 𝓤 H A) (at-mem : Memory → SProp 𝓤) (run : Routine → Fun 𝓤) where
   abbrev One : Contract 𝓤
@@ -85,7 +87,8 @@ module _ {M : Type 1} (𝓤 : URA M) (H : Heap 𝓤) (A : Atoms 𝓤) (W : Given
     abbrev Post : Val → SProp 𝓤
     Post = walkOf 𝓤 H A this.ended stayed (this.clauses 𝓤 H A at-mem run) .post ((tt, tt, tt, (h, (e, tt)), at), tt)
 
-    exits : (x : Extension) → Is X.the-row x (xv x ∷ []) → extensionIn x ≡ extended h e → ent 𝓤 (emp 𝓤) (Post (xv x))
+    exits : (x : TableAnswer) → Is X.the-row x (xv x ∷ []) → tableAnswerIn x ≡ extended h e
+        → ent 𝓤 (emp 𝓤) (Post (xv x))
     exits x g is =
         qed W [] ∵ suffices ! _ (ends-at 𝓤 H A this.ended stayed (this.clauses 𝓤 H A at-mem run) W ((tt, tt, tt, (h, (e, tt)), at), tt) (xv x) x (tt, (tt, tt)) (tt, (tt, tt))) $ says ! is $
         owned ! X.the-row (Is X.the-row) (LL.makes X.the-type X′.the-plain 𝓤 H A) x _ g $ nothing ! $ nothing ! $ fjoin ! $ nothing ! $ fjoin ! $ nothing ! $ move ! (0 ∷ 1 ∷ 2 ∷ []) $ done !
@@ -97,7 +100,8 @@ module _ {M : Type 1} (𝓤 : URA M) (H : Heap 𝓤) (A : Atoms 𝓤) (W : Given
     abbrev handed : ℕ → ℕ → GName → One .Ghost
     handed α l γ = (((α ∷ [], tt), (fullShare, tt), tt, (x l γ, (e, tt)), (vptr l 0 ∷ [], (ev e ∷ [], tt))), tt)
 
-    hands : (α l : ℕ) (γ : GName) → ent 𝓤 (sep 𝓤 (sem 𝓤 H A (MutRef (named 0) (α ∷ []) T.the-row .own (x l γ) (vptr l 0 ∷ []))) (A .lft (α ∷ []) fullShare)) (One .pre (handed α l γ))
+    hands : (α l : ℕ) (γ : GName)
+        → ent 𝓤 (sep 𝓤 (sem 𝓤 H A (MutRef (named 0) (α ∷ []) T.the-row .own (x l γ) (vptr l 0 ∷ []))) (A .lft (α ∷ []) fullShare)) (One .pre (handed α l γ))
     hands α l γ =
         qed W (‵ (MutRef (named 0) (α ∷ []) T.the-row .own (x l γ) (vptr l 0 ∷ [])) ∷ ‵ (flft (α ∷ []) fullShare) ∷ []) ∵ nothing ! $ owned ! E.the-row (Is E.the-row) (LL.makes E.the-type E′.the-plain 𝓤 H A) e _ ge $ fjoin ! $ move ! (1 ∷ 0 ∷ []) $ fjoin ! $
         nothing ! $ move ! (2 ∷ 0 ∷ []) $ join ! $ join ! $ nothing ! $ move ! (1 ∷ 0 ∷ []) $ done !
@@ -115,19 +119,21 @@ module _ {M : Type 1} (𝓤 : URA M) (H : Heap 𝓤) (A : Atoms 𝓤) (W : Given
           lft-new ! tt (λ α. move ! (1 ∷ []) $
           use1 W (later (some (λ (γ : GName). ‵ (MutRef (named 0) (α ∷ []) T.the-row .own (x l₃ γ) (vptr l₃ 0 ∷ [])) ⊛ ‵ (flent (α ∷ []) (Body (mem T.the-row) l₃ 0 γ))))) (lends-ref 𝓤 H A W T.the-row (named 0) (α ∷ []) h l₃ 0) $ await ! tt $ pick ! (λ γ. split ! $
           move ! (0 ∷ 2 ∷ []) $ use2 W (raw (One .pre (handed α l₃ γ))) (hands α l₃ γ) $
-          -- [what `try_extend` asks; the lender's part; _6 at 2; _5 at 4; _4 at 6; that _3 dies at 8; _2 at 9; _1 at 11; _0 at 13]
+          -- [what `try_extend` asks; the lender's part; _6 at 2; _5 at 4; _4 at 6; that _3 dies at 8; _2 at 9; _1 at
+          -- 11; _0 at 13]
           calls-spelled ! (fmOf 𝓤 H (W .laws) 𝓣) one.ended (one.clauses 𝓤 H A at-mem run) known (handed α l₃ γ) (λ r ws. (takenIn r, ws .0) ≡ extended h e) (λ r ws. id⊢ 𝓤 _) (EL.val K.the-type K′.the-laws) (EL.tells K.the-type K′.the-laws)
           (and-then ! (load ! (from ! (stop !)) (look ! 4 refl)) (and-then ! (load ! (from ! (stop !)) (look ! 9 refl)) (no-more !))) (λ r ws is g.
           use1 W (‵ (flft (α ∷ []) fullShare) ⊛ ‵ ftrue) (id⊢ 𝓤 _) $ split ! $ move ! (2 ∷ []) $ fsplit ! $ move ! (2 ∷ []) $
-          -- [the token; the last value; …; the lender's part at 4; _6 at 5; _5 at 7; _4 at 9; that _3 dies at 11; _2 at 12; _1 at 14; _0 at 16]
+          -- [the token; the last value; …; the lender's part at 4; _6 at 5; _5 at 7; _4 at 9; that _3 dies at 11; _2 at
+          -- 12; _1 at 14; _0 at 16]
           land ! (from ! (stop !)) (init ! 9 refl (EL.lawful K.the-type K′.the-laws 𝓤 H A W tt .typed r _ g .0)) $
           lft-end ! tt $ move ! (0 ∷ 4 ∷ 1 ∷ []) $ use3 W (later (‵ (mem T.the-row .lies (ws .0) l₃ 0))) (ref-back 𝓤 H A W T.the-row (α ∷ []) γ (ws .0) l₃ 0) $ await ! tt $ table-out ! (ws .0) l₃ 0 (λ gw.
           -- [_3 at 0; …; _6 at 3; _5 at 5; _4 at 7; that _3 dies at 9; _2 at 10; _1 at 12; _0 at 14]
           assigns ! (of-opd ! (load ! (from ! (stop !)) (look ! 0 refl))) (from ! (stop !)) (init ! 3 refl (LL.lawful T.the-type T′.the-laws 𝓤 H A W .typed (ws .0) _ gw .0)) $
-          assigns ! (agg ! (and-then ! (load ! (from ! (stop !)) (look ! 7 refl)) (and-then ! (load ! (from ! (stop !)) (look ! 3 refl)) (no-more !)))) (from ! (stop !)) (init ! 14 refl (LL.lawful X.the-type X′.the-laws 𝓤 H A W .typed (beside r (ws .0)) _ (is-beside r (ws .0) g gw) .0)) $
+          assigns ! (agg ! (and-then ! (load ! (from ! (stop !)) (look ! 7 refl)) (and-then ! (load ! (from ! (stop !)) (look ! 3 refl)) (no-more !)))) (from ! (stop !)) (init ! 14 refl (LL.lawful X.the-type X′.the-laws 𝓤 H A W .typed (pair r (ws .0)) _ (is-pair r (ws .0) g gw) .0)) $
           returns ! (look ! 14 refl) $ forget ! 0 refl $ forget ! 3 refl $ forget ! 5 refl $ forget ! 7 refl $ forget ! 10 refl $ forget ! 12 refl $ forget ! 14 refl $
           move ! (14 ∷ 15 ∷ []) $ free1 ! $ move ! (12 ∷ 13 ∷ []) $ free1 ! $ move ! (10 ∷ 11 ∷ []) $ free1 ! $ move ! (0 ∷ 9 ∷ []) $ free1 ! $ move ! (6 ∷ 7 ∷ []) $ free1 ! $ move ! (4 ∷ 5 ∷ []) $ free1 ! $ move ! (2 ∷ 3 ∷ []) $ free1 ! $ free0 ! $
-          keep ! [] $ by ! (exits (beside r (ws .0)) (is-beside r (ws .0) g gw) is))))))))))))
+          keep ! [] $ by ! (exits (pair r (ws .0)) (is-pair r (ws .0) g gw) is))))))))))))
 
   module _ (𝓣 : Tables 𝓤 H) (known : Triple 𝓤 (𝓣 .C #one) One) where
     walks : Walks 𝓤 H A this.ended stayed (WpFn 𝓤 H (𝓣 .C) (𝓣 .Λ) code.function) (this.clauses 𝓤 H A at-mem run)

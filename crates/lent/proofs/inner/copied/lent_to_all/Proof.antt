@@ -1,4 +1,5 @@
--- `inner::copied::lent_to_all`: of a local array the first n entries are lent for a lifetime that is made here, to each call in turn, and are back as they were.
+-- `inner::copied::lent_to_all`: of a local array the first n entries are lent for a lifetime that is made here, to each
+-- call in turn, and are back as they were.
 use mathlib.Core.Path.{_≡_, refl, sym, subst}
 use Prim.Native.Nat.{ℕ, _≤_}
 use mathlib.Core.List.{[], _∷_, List}
@@ -63,10 +64,10 @@ use Rattle.lent.specs.Copied.{answersIn, answersOf}
 use Rattle.lent.specs.declared.inner.copied.Answers.{Answers}
 use Rattle.lent.proofs.inner.copied.Answers as S
 use Rattle.lent.proofs.inner.copied.Answers.Laws as S′
-use Rattle.lent.proofs.Told.{calls-spelled}
+use Rattle.lent.proofs.CallInWalk.{calls-spelled}
 use Rattle.lent.proofs.InALocal.{Entries, avs, av, array-in, array-out}
 use Rattle.lent.proofs.Prefix.{Rest, Elems, prefix-out, prefix-in}
-use Rattle.lent.proofs.Asked.{List&, asks}
+use Rattle.lent.proofs.CallOnLentList.{List&, asks}
 use Rattle.lent.proofs.tai_minus_utc_at as at-call
 use Rattle.lent.proofs.inner.copied.lent_to_all.Key.{name as #this}
 use Rattle.lent.proofs.inner.copied.lent_to_all as this
@@ -127,7 +128,8 @@ module _ {M : Type 1} (𝓤 : URA M) (H : Heap 𝓤) (A : Atoms 𝓤) (W : Given
           use1 W (‵ (Elems fullShare (length ys) ys l₄ 0) ⊛ ‵ (Rest fullShare n h l₄ 0)) (prefix-out 𝓤 H A W fullShare n h l₄ 0) $ split ! $
           lft-new ! tt (λ α. move ! (1 ∷ []) $
           use1 W (later (some (λ (γ : GName). ‵ (List& (α ∷ []) (x l₄ γ)) ⊛ ‵ (flent (α ∷ []) (Elems fullShare (length ys) ys l₄ 0))))) (lends-shr-slice 𝓤 H A W E.the-row (named 0) (α ∷ []) fullShare ys l₄ 0 room) $ await ! tt $ pick ! (λ γ. split ! $ move ! (0 ∷ 2 ∷ []) $
-          -- [the list; the token; the lender's part; the rest; _12 at 4; _11 at 6; _10 at 8; _9 at 10; _8 at 12; _7 at 14; _6 at 16; _5 at 18; that _4 dies at 20; _3 at 21; …]
+          -- [the list; the token; the lender's part; the rest; _12 at 4; _11 at 6; _10 at 8; _9 at 10; _8 at 12; _7 at
+          -- 14; _6 at 16; _5 at 18; that _4 dies at 20; _3 at 21; …]
           asks K.the-row Checks 𝓤 H A ! (fmOf 𝓤 H (W .laws) 𝓣) (knows .check) (α ∷ []) fullShare (x l₄ γ) (EL.val K.the-type K′.the-laws) (EL.tells K.the-type K′.the-laws) (and-then ! (load ! (from ! (stop !)) (look ! 18 refl)) (no-more !)) (λ r₁ p₁ g₁.
           land ! (from ! (stop !)) (init ! 14 refl (EL.lawful K.the-type K′.the-laws 𝓤 H A W tt .typed r₁ _ g₁ .0)) $
           asks N.the-row Measures 𝓤 H A ! (fmOf 𝓤 H (W .laws) 𝓣) (knows .len) (α ∷ []) fullShare (x l₄ γ) (EL.val N.the-type N′.the-laws) (EL.tells N.the-type N′.the-laws) (and-then ! (load ! (from ! (stop !)) (look ! 18 refl)) (no-more !)) (λ r₂ p₂ g₂.
@@ -146,7 +148,8 @@ module _ {M : Type 1} (𝓤 : URA M) (H : Heap 𝓤) (A : Atoms 𝓤) (W : Given
           land ! (from ! (stop !)) (init ! 5 refl (EL.lawful O.the-type O′.the-laws 𝓤 H A W tt .typed r₆ _ g₆ .0)) $
           lft-end ! tt $ move ! (0 ∷ 3 ∷ []) $ lent-back ! tt $ move ! (0 ∷ 3 ∷ []) $ use2 W (‵ (Elems fullShare 70 h l₄ 0)) (prefix-in 𝓤 H A W fullShare n h l₄ 0 long) $
           use1 W (‵ (partAt (Entries 70) fullShare h l₄ 0)) (array-whole 𝓤 H A W E.the-row fullShare 70 h l₄ 0) $ array-out ! 70 h l₄ 0 (
-          -- [_4 at 0; …; _12 at 3; _11 at 5; _10 at 7; _9 at 9; _8 at 11; _7 at 13; _6 at 15; _5 at 17; that _4 dies at 19; _3 at 20; _2 at 22; _1 at 24; _0 at 26]
+          -- [_4 at 0; …; _12 at 3; _11 at 5; _10 at 7; _9 at 9; _8 at 11; _7 at 13; _6 at 15; _5 at 17; that _4 dies at
+          -- 19; _3 at 20; _2 at 22; _1 at 24; _0 at 26]
           assigns ! (agg ! (and-then ! (load ! (from ! (stop !)) (look ! 13 refl)) (and-then ! (load ! (from ! (stop !)) (look ! 11 refl)) (and-then ! (load ! (from ! (stop !)) (look ! 9 refl))
           (and-then ! (load ! (from ! (stop !)) (look ! 7 refl)) (and-then ! (load ! (from ! (stop !)) (look ! 5 refl)) (and-then ! (load ! (from ! (stop !)) (look ! 3 refl)) (no-more !)))))))) (from ! (stop !))
           (init ! 26 refl (LL.lawful S.the-type S′.the-laws 𝓤 H A W .typed (all r₁ r₂ r₃ r₄ r₅ r₆) _ (is-all r₁ r₂ r₃ r₄ r₅ r₆ g₁ g₂ g₃ g₄ g₅ g₆) .0)) $

@@ -45,7 +45,8 @@ module _ {M : Type 1} (𝓤 : URA M) (H : Heap 𝓤) (A : Atoms 𝓤) (at-mem : 
   abbrev pub to-on : Pass → LeapEntry → PassingOn .Ghost
   to-on p e = ((tt, tt, tt, (p, (e, tt)), (pv p ∷ [], (ev e ∷ [], tt))), tt)
 
-  pub hands-on : Given 𝓤 H A → (p : Pass) (e : LeapEntry) → Is P.the-row p (pv p ∷ []) → Is E.the-row e (ev e ∷ []) → p .count + 1 < 2 ^ 64 → ent 𝓤 (emp 𝓤) (PassingOn .pre (to-on p e))
+  pub hands-on : Given 𝓤 H A → (p : Pass) (e : LeapEntry) → Is P.the-row p (pv p ∷ []) → Is E.the-row e (ev e ∷ [])
+      → p .count + 1 < 2 ^ 64 → ent 𝓤 (emp 𝓤) (PassingOn .pre (to-on p e))
   hands-on W p e g ge l =
       qed W [] ∵ says ! l $ nothing ! $ owned ! E.the-row (Is E.the-row) (LL.makes E.the-type E′.the-plain 𝓤 H A) e _ ge $ fjoin ! $
       owned ! P.the-row (Is P.the-row) (LL.makes P.the-type P′.the-plain 𝓤 H A) p _ g $ fjoin ! $ nothing ! $ done !

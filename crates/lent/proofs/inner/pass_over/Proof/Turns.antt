@@ -1,4 +1,5 @@
--- What is known where a turn of the pass begins, in plain facts: the entries before place i are passed, and those from i on are still to come.
+-- What is known where a turn of the pass begins, in plain facts: the entries before place i are passed, and those from
+-- i on are still to come.
 use mathlib.Core.Path.{_≡_, sym, ap, _∙_}
 use mathlib.Core.Bool.{not}
 use mathlib.Core.List.{List, [], _∷_}
@@ -75,8 +76,11 @@ module _ (t : ℕ) (ys : List LeapEntry) where
           i = s .i + 1;
           pass = p;
           is-pass = g;
-          counts = ap (λ (x : Seen). x .count) is ∙ counts-on (seenIn (s .pass)) at-i ∙ ap (λ (n : ℕ). n + 1) (s .counts);
-          comes = ap (λ (x : Seen). passed x (drop (s .i + 1) ys)) is ∙ sym (one-on ys (seenIn (s .pass)) (s .i) below) ∙ s .comes;
+          counts =
+              ap (λ (x : Seen). x .count) is ∙ counts-on (seenIn (s .pass)) at-i ∙ ap (λ (n : ℕ). n + 1) (s .counts);
+          comes =
+              ap (λ (x : Seen). passed x (drop (s .i + 1) ys)) is ∙ sym (one-on ys (seenIn (s .pass)) (s .i) below)
+              ∙ s .comes;
           fits = λ k l. one-more-fits k l (decLt k (s .i));
         }
 

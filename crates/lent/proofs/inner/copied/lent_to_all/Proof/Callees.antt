@@ -29,7 +29,7 @@ use Rattle.tables.proofs.LengthAnswer as N
 use Rattle.tables.proofs.EmptyAnswer as B
 use Rattle.tables.proofs.UpdateAnswer as U
 use Rattle.tables.proofs.OffsetAnswer as O
-use Rattle.lent.proofs.Asked.{List&, Answering}
+use Rattle.lent.proofs.CallOnLentList.{List&, Answering}
 use Rattle.lent.proofs.tai_minus_utc_at as at-call
 use Rattle.lent.proofs.try_from_slice.Symbol as check-def
 use Rattle.lent.proofs.try_from_slice.Symbol.{name as #check}
@@ -63,7 +63,8 @@ module _ {M : Type 1} (𝓤 : URA M) (H : Heap 𝓤) (A : Atoms 𝓤) (at-mem : 
     abbrev pub to-at : LookingUp .Ghost
     to-at = (((κ, tt), (q, tt), tt, (x, (z, tt)), (slice-vals x, (zv z ∷ [], tt))), tt)
 
-    pub hands-at : Given 𝓤 H A → Is Z.the-row z (zv z ∷ []) → ent 𝓤 (sep 𝓤 (sem 𝓤 H A (List& κ x)) (A .lft κ q)) (LookingUp .pre to-at)
+    pub hands-at : Given 𝓤 H A → Is Z.the-row z (zv z ∷ [])
+        → ent 𝓤 (sep 𝓤 (sem 𝓤 H A (List& κ x)) (A .lft κ q)) (LookingUp .pre to-at)
     hands-at W gz =
         qed W (‵ (List& κ x) ∷ ‵ (flft κ q) ∷ []) ∵ nothing ! $ owned ! Z.the-row (Is Z.the-row) (LL.makes Z.the-type Z′.the-plain 𝓤 H A) z _ gz $ fjoin ! $ move ! (1 ∷ 0 ∷ []) $ fjoin ! $
         nothing ! $ move ! (2 ∷ 0 ∷ []) $ join ! $ join ! $ nothing ! $ move ! (1 ∷ 0 ∷ []) $ done !
@@ -76,7 +77,8 @@ module _ {M : Type 1} (𝓤 : URA M) (H : Heap 𝓤) (A : Atoms 𝓤) (at-mem : 
     pub current : Triple 𝓤 (𝓣 .C #current) (Answering O.the-row Currents 𝓤 H A)
     pub at : Triple 𝓤 (𝓣 .C #at) LookingUp
 
-pub known : {M : Type 1} (𝓤 : URA M) (H : Heap 𝓤) (𝓜 : Model 𝓤 H) (𝓖 : GhostRules 𝓤 H) (𝓡 : Running 𝓤 H 𝓜) → Known 𝓤 H (𝓖 .A) (𝓜 .mem) (𝓡 .run) (tablesOf 𝓤 H 𝓜 (tables 𝓤 H 𝓜 𝓡 code.env))
+pub known : {M : Type 1} (𝓤 : URA M) (H : Heap 𝓤) (𝓜 : Model 𝓤 H) (𝓖 : GhostRules 𝓤 H) (𝓡 : Running 𝓤 H 𝓜)
+    → Known 𝓤 H (𝓖 .A) (𝓜 .mem) (𝓡 .run) (tablesOf 𝓤 H 𝓜 (tables 𝓤 H 𝓜 𝓡 code.env))
 unfolding tablesOf
 known 𝓤 H 𝓜 𝓖 𝓡 = record {
   check = cited 𝓤 H (Answering K.the-row Checks 𝓤 H (𝓖 .A)) 𝓜 𝓡 code.env #check check-def.routine code.calls-lent·try-from-slice (check-thm.met 𝓤 H 𝓜 𝓖 𝓡);

@@ -57,9 +57,13 @@ module _ (k : Taken) (n : LengthAnswer) (b : EmptyAnswer) (u : UpdateAnswer) (c 
   abbrev pub all : Answers
   all = record { check = k; length = n; empty = b; update = u; current = c; «in_force» = f }
 
-  pub together : (ys : List Entry) (t : ℕ) → Checks ys k → Measures ys n → Empties ys b → Updates ys u → Currents ys c → Finds ys t f → answersIn all ≡ answersOf ys t
+  pub together : (ys : List Entry) (t : ℕ) → Checks ys k → Measures ys n → Empties ys b → Updates ys u → Currents ys c
+      → Finds ys t f → answersIn all ≡ answersOf ys t
   together ys t p₁ p₂ p₃ p₄ p₅ p₆ = rw (p₁, p₂, p₃, p₄, p₅, p₆)
 
-  pub is-all : Is K.the-row k (EL.val K.the-type K′.the-laws k ∷ []) → Is N.the-row n (EL.val N.the-type N′.the-laws n ∷ []) → Is B.the-row b (EL.val B.the-type B′.the-laws b ∷ []) → Is U.the-row u (EL.val U.the-type U′.the-laws u ∷ [])
-      → Is O.the-row c (EL.val O.the-type O′.the-laws c ∷ []) → Is O.the-row f (EL.val O.the-type O′.the-laws f ∷ []) → Is S.the-row all (sv all ∷ [])
+  pub is-all : Is K.the-row k (EL.val K.the-type K′.the-laws k ∷ [])
+      → Is N.the-row n (EL.val N.the-type N′.the-laws n ∷ []) → Is B.the-row b (EL.val B.the-type B′.the-laws b ∷ [])
+      → Is U.the-row u (EL.val U.the-type U′.the-laws u ∷ [])
+      → Is O.the-row c (EL.val O.the-type O′.the-laws c ∷ []) → Is O.the-row f (EL.val O.the-type O′.the-laws f ∷ [])
+      → Is S.the-row all (sv all ∷ [])
   is-all g₁ g₂ g₃ g₄ g₅ g₆ = LL.owes S.the-type S′.the-laws all (g₁, (g₂, (g₃, (g₄, (g₅, (g₆, tt))))))

@@ -1,4 +1,5 @@
--- The offset in force over a regular list is 19 and the number of later thresholds passed; the laws of that number, by induction on the list.
+-- The offset in force over a regular list is 19 and the number of later thresholds passed; the laws of that number, by
+-- induction on the list.
 use mathlib.Core.Path.{_≡_, refl, ap, _∙_}
 use mathlib.Core.Bool.{true, cond}
 use mathlib.Core.List.{List, [], _∷_, List·Memᴰ, List·Memᴰ·head, List·Memᴰ·tail}
@@ -13,12 +14,13 @@ use Rattle.tables.specs.Entries.{Entry, threshold, offset, equal, neighb
 use Rattle.tables.proofs.Integers.{equal-true}
 use Rattle.tables.proofs.Neighbours.{both}
 
--- the entries behind p: each a day or more after the one before, its offset one more
+-- the entries after p: each a day or more after the one before, its offset one more
 abbrev pub Chain : Entry → List Entry → Type 0
 Chain p [] = Unit {0}
 Chain p (e ∷ es) = (threshold p + day ≤ threshold e) × (offset e ≡ offset p +ℤ pos 1) × Chain e es
 
-pub chain : (p : Entry) (es : List Entry) → neighbours follows (p ∷ es) ≡ true → neighbours aDayOn (p ∷ es) ≡ true → Chain p es
+pub chain : (p : Entry) (es : List Entry) → neighbours follows (p ∷ es) ≡ true → neighbours aDayOn (p ∷ es) ≡ true
+    → Chain p es
 unfolding neighbours
 chain p [] f d = tt
 chain p (e ∷ es) f d =
@@ -28,33 +30,34 @@ chain p (e ∷ es) f d =
     (leb-true (threshold p + day) (threshold e) (d2 .0), equal-true _ _ more, chain e es (f2 .1) (d2 .1))
 
 -- how many thresholds are at most t: `1 - (x - t)` is 1 if x ≤ t, and else 0
-unfoldable pub passed : List Entry → ℕ → ℕ
-passed [] t = 0
-passed (e ∷ es) t = 1 - (threshold e - t) + passed es t
+unfoldable pub reached : List Entry → ℕ → ℕ
+reached [] t = 0
+reached (e ∷ es) t = 1 - (threshold e - t) + reached es t
 
-pub few : (es : List Entry) (t : ℕ) → passed es t ≤ length es
-unfolding passed
+pub few : (es : List Entry) (t : ℕ) → reached es t ≤ length es
+unfolding reached
 few [] t = omega arith
 few (e ∷ es) t = omega (arith, few es t)
 
-pub rises : (es : List Entry) (t t′ : ℕ) → t ≤ t′ → passed es t ≤ passed es t′
-unfolding passed
+pub rises : (es : List Entry) (t t′ : ℕ) → t ≤ t′ → reached es t ≤ reached es t′
+unfolding reached
 rises [] t t′ l = omega arith
 rises (e ∷ es) t t′ l = omega (arith, rises es t t′ l)
 
 -- within a day of the entry before them none is passed
-pub none-within-a-day : (p : Entry) (es : List Entry) (t : ℕ) → Chain p es → t < threshold p + day → passed es t ≡ 0
-unfolding passed
+pub none-within-a-day : (p : Entry) (es : List Entry) (t : ℕ) → Chain p es → t < threshold p + day → reached es t ≡ 0
+unfolding reached
 none-within-a-day p [] t c l = refl
 none-within-a-day p (e ∷ es) t c l = omega (arith, none-within-a-day e es t (c .2) (omega arith))
 
 -- within a day at most one is passed
-pub one-in-a-day : (p : Entry) (es : List Entry) (t t′ : ℕ) → Chain p es → t′ < t + day → passed es t′ ≤ suc (passed es t)
-unfolding passed
+pub one-in-a-day : (p : Entry) (es : List Entry) (t t′ : ℕ) → Chain p es → t′ < t + day
+    → reached es t′ ≤ suc (reached es t)
+unfolding reached
 one-in-a-day p [] t t′ c l = omega arith
 one-in-a-day p (e ∷ es) t t′ c l = go (decLt t (threshold e)) (one-in-a-day e es t t′ (c .2) l)
   where
-    go : Dec (t < threshold e) → passed es t′ ≤ suc (passed es t) → passed (e ∷ es) t′ ≤ suc (passed (e ∷ es) t)
+    go : Dec (t < threshold e) → reached es t′ ≤ suc (reached es t) → reached (e ∷ es) t′ ≤ suc (reached (e ∷ es) t)
     go (yes h) r = omega (arith, none-within-a-day e es t′ (c .2) (omega arith))
     go (no h) r = omega (arith, h)
 
@@ -65,31 +68,32 @@ pub record Between (es : List Entry) (t t′ : ℕ) : Type 0 where
   pub after : t < threshold entry
   pub by : threshold entry ≤ t′
 
-pub more-by-an-entry : (es : List Entry) (t t′ : ℕ) → passed es t < passed es t′ → Between es t t′
-unfolding passed
+pub more-by-an-entry : (es : List Entry) (t t′ : ℕ) → reached es t < reached es t′ → Between es t t′
+unfolding reached
 more-by-an-entry [] t t′ m = absurd (none m)
   where
     none : 0 < 0 → ⊥
     none l = omega arith
 more-by-an-entry (e ∷ es) t t′ m = go (decLt t (threshold e)) (decLe (threshold e) t′) (more-by-an-entry es t t′)
   where
-    behind : Between es t t′ → Between (e ∷ es) t t′
-    behind b = record { entry = b .entry; among = List·Memᴰ·tail (b .among); after = b .after; by = b .by }
+    further : Between es t t′ → Between (e ∷ es) t t′
+    further b = record { entry = b .entry; among = List·Memᴰ·tail (b .among); after = b .after; by = b .by }
 
-    go : Dec (t < threshold e) → Dec (threshold e ≤ t′) → (passed es t < passed es t′ → Between es t t′) → Between (e ∷ es) t t′
+    go : Dec (t < threshold e) → Dec (threshold e ≤ t′) → (reached es t < reached es t′ → Between es t t′)
+        → Between (e ∷ es) t t′
     go (yes h) (yes h′) r = record { entry = e; among = List·Memᴰ·head refl; after = h; by = h′ }
-    go (yes h) (no h′) r = behind (r (omega (arith, h′)))
-    go (no h) d r = behind (r (omega (arith, h)))
+    go (yes h) (no h′) r = further (r (omega (arith, h′)))
+    go (no h) d r = further (r (omega (arith, h)))
 
-pub an-entry-more : (es : List Entry) (t t′ : ℕ) → Between es t t′ → passed es t < passed es t′
-unfolding passed
+pub an-entry-more : (es : List Entry) (t t′ : ℕ) → Between es t t′ → reached es t < reached es t′
+unfolding reached
 an-entry-more es t t′ b = go es (b .among)
   where
-    go : (es : List Entry) → List·Memᴰ (b .entry) es → passed es t < passed es t′
+    go : (es : List Entry) → List·Memᴰ (b .entry) es → reached es t < reached es t′
     go (e ∷ es) (List·Memᴰ·head q) = omega (arith, ap threshold q, b .after, b .by, rises es t t′ (omega (arith, b .after, b .by)))
     go (e ∷ es) (List·Memᴰ·tail m) = omega (arith, b .after, b .by, go es m)
 
--- behind p, at a reading before it, no entry is found
+-- after p, at a reading before it, no entry is found
 none-found : (p f : Entry) (es : List Entry) (t : ℕ) → Chain p es → t < threshold p → lastUpTo t f es ≡ f
 unfolding lastUpTo
 none-found p f [] t c l = refl
@@ -98,14 +102,15 @@ none-found p f (e ∷ es) t c l =
     rw (lt-leb (threshold e) t a) (none-found e f es t (c .2) a)
 
 -- the last entry up to t has the offset of p and one for each that is passed
-pub last-offset : (p : Entry) (es : List Entry) (t n : ℕ) → Chain p es → offset p ≡ pos n → offset (lastUpTo t p es) ≡ pos (n + passed es t)
-unfolding lastUpTo passed
+pub last-offset : (p : Entry) (es : List Entry) (t n : ℕ) → Chain p es → offset p ≡ pos n
+    → offset (lastUpTo t p es) ≡ pos (n + reached es t)
+unfolding lastUpTo reached
 last-offset p [] t n c o = o ∙ ap pos (omega arith)
 last-offset p (e ∷ es) t n c o =
     go (decLe (threshold e) t) (last-offset e es t (suc n) (c .2) (c .1 ∙ rw o (ap pos (omega arith))))
   where
-    go : Dec (threshold e ≤ t) → offset (lastUpTo t e es) ≡ pos (suc n + passed es t)
-        → offset (lastUpTo t (cond (leb (threshold e) t) e p) es) ≡ pos (n + passed (e ∷ es) t)
+    go : Dec (threshold e ≤ t) → offset (lastUpTo t e es) ≡ pos (suc n + reached es t)
+        → offset (lastUpTo t (cond (leb (threshold e) t) e p) es) ≡ pos (n + reached (e ∷ es) t)
     go (yes h) r = rw (le-leb (threshold e) t h) (r ∙ ap pos (omega arith))
     go (no h) r =
         let a : t < threshold e = omega (arith, h) in

@@ -20,7 +20,7 @@ use denote.Triple.Clauses.{closing}
 use denote.Triple.Spec.{tripleOf}
 use Rattle.tables.specs.declared.LeapEntry.{LeapEntry}
 use Rattle.tables.proofs.LeapEntry as E
-use Rattle.lent.proofs.Told.{calls-spelled}
+use Rattle.lent.proofs.CallInWalk.{calls-spelled}
 use Rattle.lent.proofs.Readers.{listed, lists}
 
 abbrev pub List& : Lft → RefT (List LeapEntry) → Fml
@@ -33,11 +33,14 @@ module _ (R : RattleType) (ψ : List LeapEntry → R .Denot → Type 0) {M : Typ
   abbrev pub to-answer : Lft → Share → RefT (List LeapEntry) → Answering .Ghost
   to-answer κ q x = (((κ, tt), (q, tt), tt, (x, tt), (slice-vals x, tt)), tt)
 
-  hands : Given 𝓤 H A → (κ : Lft) (q : Share) (x : RefT (List LeapEntry)) → ent 𝓤 (sep 𝓤 (sem 𝓤 H A (List& κ x)) (A .lft κ q)) (Answering .pre (to-answer κ q x))
+  hands : Given 𝓤 H A → (κ : Lft) (q : Share) (x : RefT (List LeapEntry))
+      → ent 𝓤 (sep 𝓤 (sem 𝓤 H A (List& κ x)) (A .lft κ q)) (Answering .pre (to-answer κ q x))
   hands W κ q x = qed W (‵ (List& κ x) ∷ ‵ (flft κ q) ∷ []) ∵ nothing ! $ move ! (1 ∷ 0 ∷ []) $ fjoin ! $ nothing ! $ move ! (2 ∷ 0 ∷ []) $ join ! $ join ! $ nothing ! $ move ! (1 ∷ 0 ∷ []) $ done !
 
   pub asks : {K : Type 0} {W : Given 𝓤 H A} {Γ : List (Item 𝓤)} {E : Env 𝓤 H} {C : Calls 𝓤 H} {f : Name} {xs : List Operand} {Λ : Loops 𝓤 H} {p : Post 𝓤 H} {d : Place} {rest : Body}
-      → K → FmC 𝓤 H (W .laws) C → Triple 𝓤 (C f) Answering → (κ : Lft) (q : Share) (x : RefT (List LeapEntry)) (val : R .Denot → Val) → Tells R (Is R) (λ r. val r ∷ []) → Opds K W (raw (Answering .pre (to-answer κ q x)) ∷ ‵ (List& κ x) ∷ Γ) E xs (slice-vals x)
+      → K → FmC 𝓤 H (W .laws) C → Triple 𝓤 (C f) Answering
+      → (κ : Lft) (q : Share) (x : RefT (List LeapEntry)) (val : R .Denot → Val) → Tells R (Is R) (λ r. val r ∷ [])
+      → Opds K W (raw (Answering .pre (to-answer κ q x)) ∷ ‵ (List& κ x) ∷ Γ) E xs (slice-vals x)
       → ((r : R .Denot) → ψ (x .now) r → Is R r (val r ∷ []) → Seq K W (‵ (List& κ x) ∷ ‵ (flft κ q) ∷ Γ) (lands C Λ E d (val r) rest p))
       → Seq K W (‵ (List& κ x) ∷ ‵ (flft κ q) ∷ Γ) (runs C Λ E (seq (call f xs d) rest) p)
   asks {W = W} t fm known κ q x val tells os k =

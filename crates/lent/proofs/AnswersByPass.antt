@@ -7,7 +7,8 @@ use lib.Dec.{eqb}
 use lib.ListN.{length}
 use Rattle.refusals.specs.Outcome.{Outcome, answered}
 use Rattle.tables.specs.Answers.{takenIn}
-use Rattle.tables.specs.Entries.{Entry, offset, valid, offsetAt, currentOffset, lastUpdate, checking}
+use Rattle.tables.specs.Entries.{Entry, offset, valid, telling, lookup, offsetAt, currentOffset, lastUpdate, checking}
+use Rattle.tables.specs.declared.Lookup.{Lookup}
 use Rattle.lent.specs.Lists.{ofValidList}
 use Rattle.lent.specs.Pass.{Seen, checkAt, ofTaken, updateAt}
 use Rattle.lent.specs.declared.inner.Pass.{Pass}
@@ -35,10 +36,17 @@ module _ (t : ℕ) (ys : List Entry) (p : Pass) (said : Said t ys p) where
   emptiness-read = of-valid _ _ (λ v. ap (λ (n : ℕ). answered (eqb n 0)) counts)
 
   pub update-read : ofTaken (p .answer) (answered (updateAt (p .count) (p .last))) ≡ ofValidList ys (answered (lastUpdate ys))
-  update-read = of-valid _ _ (λ v. ap (λ (s : Seen). answered (updateAt (s .count) (s .last))) (said .0) ∙ ap answered (last-event t ys))
+  update-read =
+      of-valid _ _ (λ v. ap (λ (s : Seen). answered (updateAt (s .count) (s .last))) (said .0) ∙ ap answered (last-event t ys))
 
   pub current-read : ofTaken (p .answer) (answered (offset (p .last))) ≡ ofValidList ys (answered (currentOffset ys))
-  current-read = of-valid _ _ (λ v. ap (λ (s : Seen). answered (offset (s .last))) (said .0) ∙ ap answered (last-offset t ys))
+  current-read =
+      of-valid _ _ (λ v. ap (λ (s : Seen). answered (offset (s .last))) (said .0) ∙ ap answered (last-offset t ys))
 
   pub in-force-read : ofTaken (p .answer) (answered (offset (p .found))) ≡ ofValidList ys (answered (offsetAt ys t))
-  in-force-read = of-valid _ _ (λ v. ap (λ (s : Seen). answered (offset (s .found))) (said .0) ∙ ap answered (in-force t ys v))
+  in-force-read =
+      of-valid _ _ (λ v. ap (λ (s : Seen). answered (offset (s .found))) (said .0) ∙ ap (λ (l : Lookup). answered (l .offset)) (in-force t ys v))
+
+  pub lookup-read : ofTaken (p .answer) (answered (telling (p .found))) ≡ ofValidList ys (answered (lookup ys t))
+  lookup-read =
+      of-valid _ _ (λ v. ap (λ (s : Seen). answered (telling (s .found))) (said .0) ∙ ap answered (in-force t ys v))

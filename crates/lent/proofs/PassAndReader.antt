@@ -42,7 +42,8 @@ module _ {M : Type 1} (𝓤 : URA M) (H : Heap 𝓤) (A : Atoms 𝓤) (at-mem : 
     to-over = (((κ, tt), (q, tt), tt, (x, (t, tt)), (slice-vals x, (vint w64 t ∷ [], tt))), tt)
 
     -- the lent list and the token
-    pub hands-over : Given 𝓤 H A → Is u64 t (vint w64 t ∷ []) → ent 𝓤 (sep 𝓤 (sem 𝓤 H A (ShrSlice (named 0) κ E.the-row .own x (slice-vals x))) (A .lft κ q)) (Passing .pre to-over)
+    pub hands-over : Given 𝓤 H A → Is u64 t (vint w64 t ∷ [])
+        → ent 𝓤 (sep 𝓤 (sem 𝓤 H A (ShrSlice (named 0) κ E.the-row .own x (slice-vals x))) (A .lft κ q)) (Passing .pre to-over)
     hands-over W g =
         qed W (‵ (ShrSlice (named 0) κ E.the-row .own x (slice-vals x)) ∷ ‵ (flft κ q) ∷ []) ∵ nothing ! $ owned ! u64 (Is u64) (uint-makes 𝓤 H A W w64) t _ g $ fjoin ! $ move ! (1 ∷ 0 ∷ []) $ fjoin ! $
         nothing ! $ move ! (2 ∷ 0 ∷ []) $ join ! $ join ! $ nothing ! $ move ! (1 ∷ 0 ∷ []) $ done !

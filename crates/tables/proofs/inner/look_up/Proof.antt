@@ -1,0 +1,45 @@
+-- `inner::look_up` tells what is in force: the search counts the thresholds at or below the reading, and the last of
+-- their entries is in force.
+use mathlib.Core.Path.{sym, ap, _∙_}
+use Prim.Native.Nat.{ℕ}
+use native.Mathlib.Omega.{arith}
+use denote.Ref.{now}
+use lib.ListN.{getD}
+use lib.IntN.{ℤ, pos}
+use mir.Syntax.{w32}
+use mir.Val.{SFits}
+use mir.Facts.{toZ-ofZ}
+use Rattle.tables.specs.Entries.{entry, telling}
+use Rattle.tables.proofs.InForce.{rises, lookup-is, none-in-force}
+use borrow.Author.Needs.{needs}
+use Rattle.tables.proofs.inner.look_up as call
+
+returns : call.Tie.Need-returns
+returns c = rw (c .if1 .taken) (sym (none-in-force (c .before .before .args .tai)))
+
+count-at-or-below-requires : call.Tie.Need-count-at-or-below-requires
+count-at-or-below-requires c κs =
+    let a = c .before .before .args in
+    (search needs, rises (now (a .thresholds)) (now (a .offsets)) (a .n) (search needs) (search needs) (c .before .before .pre .1 .1))
+
+returns-2 : call.Tie.Need-returns-2
+returns-2 c =
+    let place = c .before .place-in-force in
+    let search-for = c .before .before .count-at-or-below in
+    let a = c .before .before .before .before .before .args in
+    let fits : SFits w32 (getD (now (a .offsets)) (place .result) (pos 0)) = search needs in
+    ap (λ (z : ℤ). telling (entry 0 z)) (toZ-ofZ fits ∙ ap (λ (i : ℕ). getD (now (a .offsets)) i (pos 0)) (place .ensures))
+    ∙ sym
+    (lookup-is (now (a .thresholds)) (now (a .offsets)) (a .n) (search needs) (search needs) (a .tai) (search-for .result)
+    (omega (arith, c .before .before .before .if1 .left)) (search-for .ensures))
+
+pub look-up-spec : {M : Type 1} → call.Statement.statement M
+look-up-spec =
+    call.Tie.close
+    (call.Tie.spec
+    returns
+    count-at-or-below-requires
+    (λ c κs. search needs)
+    (λ c. search needs)
+    (λ c. search needs)
+    returns-2)
