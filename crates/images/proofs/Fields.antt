@@ -1,16 +1,19 @@
 -- Numbers of one width in bytes, read and written a number at a turn.
 use mathlib.Core.Path.{_≡_, refl, sym, ap, _∙_}
 use mathlib.Core.List.{List, [], _∷_, _++_, map, map-append, append-nil}
-use Prim.Native.Nat.{ℕ, zero, suc, _+_, _*_, _<_}
+use Prim.Native.Nat.{ℕ, zero, suc, _+_, _*_, _≤_, _<_}
 use native.Mathlib.Nat.{mul-zero, mul-suc}
 use native.Mathlib.Numerals.{add-one}
 use native.Mathlib.Omega.{arith}
 use lib.ListN.{length, getD, take, drop, set, length-append}
-use lib.Seq.{take-suc-set, drop-cons, drop-drop, drop-length, sets, sets-eq}
-use Rattle.images.specs.Image.{numberIn, bytesOf, numbersIn, bytesOfAll}
+use lib.Seq.{take-suc-set, set-comm, drop-cons, drop-drop, drop-length, sets, sets-eq}
+use Rattle.words.specs.Words.{numberIn, bytesOf}
+use Rattle.words.proofs.Bytes.{bytes-count}
+use Rattle.images.specs.Image.{numbersIn, bytesOfAll}
 
 -- one number more at the end
-field-more : (k stride n : ℕ) (bs : List ℕ) → numbersIn k stride (suc n) bs ≡ numbersIn k stride n bs ++ (numberIn (take k (drop (stride * n) bs)) ∷ [])
+field-more : (k stride n : ℕ) (bs : List ℕ)
+    → numbersIn k stride (suc n) bs ≡ numbersIn k stride n bs ++ (numberIn (take k (drop (stride * n) bs)) ∷ [])
 unfolding numbersIn
 field-more k stride zero bs = rw mul-zero
 field-more k stride (suc n) bs =
@@ -19,23 +22,19 @@ field-more k stride (suc n) bs =
     (field-more k stride n (drop stride bs)
     ∙ ap (λ (l : List ℕ). numbersIn k stride n (drop stride bs) ++ (numberIn (take k l) ∷ [])) (drop-drop (stride * n) stride bs ∙ ap (λ (j : ℕ). drop j bs) further))
 
--- the first i slots hold the first i numbers, and the next number is put into the slot behind them
+-- the first i slots hold the first i numbers, and the next number is put into the slot after them
 module _ {A : Type 0} (f : ℕ → A) (k stride start : ℕ) (b : List ℕ) where
   pub none-kept : _≡_ {A = List A} [] (map f (numbersIn k stride 0 (drop start b)))
   unfolding numbersIn
   none-kept = refl
 
   pub field-kept : (kept : List A) (i : ℕ) (v : A) → i < length kept
-      → take i kept ≡ map f (numbersIn k stride i (drop start b)) → v ≡ f (numberIn (take k (drop (start + stride * i) b)))
+      → take i kept ≡ map f (numbersIn k stride i (drop start b))
+      → v ≡ f (numberIn (take k (drop (start + stride * i) b)))
       → take (i + 1) (set kept i v) ≡ map f (numbersIn k stride (i + 1) (drop start b))
   field-kept kept i v h e g =
       let next = ap (λ (l : List ℕ). numberIn (take k l)) (drop-drop (stride * i) start b) in
       rw (add-one, take-suc-set kept i v h, field-more k stride i (drop start b), map-append, e, g, next)
-
-pub bytes-count : (k n : ℕ) → length (bytesOf k n) ≡ k
-unfolding bytesOf
-bytes-count zero n = refl
-bytes-count (suc k) n = ap suc (bytes-count k _)
 
 pub all-bytes-count : (k : ℕ) (ns : List ℕ) → length (bytesOfAll k ns) ≡ k * length ns
 unfolding bytesOfAll
@@ -44,14 +43,30 @@ all-bytes-count k (n ∷ ns) =
     length-append (bytesOf k n) (bytesOfAll k ns) ∙ rw (bytes-count, all-bytes-count k ns, mul-suc) (omega arith)
 
 -- two runs of stores, the second from where the first ends
-pub sets-sets : {A : Type 0} (l vs ws : List A) (i j : ℕ) → j ≡ i + length vs → sets (sets l i vs) j ws ≡ sets l i (vs ++ ws)
+pub sets-sets : {A : Type 0} (l vs ws : List A) (i j : ℕ) → j ≡ i + length vs
+    → sets (sets l i vs) j ws ≡ sets l i (vs ++ ws)
 sets-sets {A} l [] ws i j e = let s : j ≡ i = omega arith in ap (λ (k : ℕ). sets l k ws) s
 sets-sets l (v ∷ vs) ws i j e = sets-sets (set l i v) vs ws (suc i) j (omega arith)
+
+-- runs of stores that do not meet, in either order
+set-sets : {A : Type 0} (l ws : List A) (i j : ℕ) (v : A) → i < j → set (sets l j ws) i v ≡ sets (set l i v) j ws
+set-sets l [] i j v h = refl
+set-sets {A} l (w ∷ ws) i j v h =
+    set-sets (set l j w) ws i (suc j) v (omega arith)
+    ∙ ap (λ (x : List A). sets x (suc j) ws) (set-comm l j i w v (λ e. omega arith))
+
+pub sets-apart : {A : Type 0} (l vs ws : List A) (i j : ℕ) → i + length vs ≤ j
+    → sets (sets l j ws) i vs ≡ sets (sets l i vs) j ws
+sets-apart l [] ws i j h = refl
+sets-apart {A} l (v ∷ vs) ws i j h =
+    ap (λ (x : List A). sets x (suc i) vs) (set-sets l ws i j v (omega arith))
+    ∙ sets-apart (set l i v) vs ws (suc i) j (omega arith)
 
 -- a run of stores over a whole list
 pub sets-all : (l vs : List ℕ) → length vs ≡ length l → sets l 0 vs ≡ vs
 sets-all l vs e =
-    sets-eq vs l 0 (omega arith) ∙ ap (λ (n : ℕ). vs ++ drop n l) whole ∙ ap (λ (r : List ℕ). vs ++ r) (drop-length l) ∙ append-nil vs
+    sets-eq vs l 0 (omega arith) ∙ ap (λ (n : ℕ). vs ++ drop n l) whole ∙ ap (λ (r : List ℕ). vs ++ r) (drop-length l)
+    ∙ append-nil vs
   where
     whole : 0 + length vs ≡ length l
     whole = omega arith

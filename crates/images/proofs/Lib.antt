@@ -1,8 +1,11 @@
-pub mod Bytes
-pub mod Complement
 pub mod Fields
 pub mod Whole
 pub mod ListedEntries
+mod InBytes
 pub mod Inverses
 pub mod NothingLost
+mod InSlots
+mod OnePass
+mod Judged
+pub mod Held
 pub mod Calls

@@ -11,9 +11,11 @@ use mir.Val.{Fits, SFits, toZ, ofZ}
 use mir.Facts.{toZ-ofZ, ofZ-toZ, fits-ofZ}
 use Rattle.tables.specs.declared.LeapTable.{LeapTable}
 use Rattle.tables.proofs.Extensions.{Sized}
-use Rattle.images.specs.Image.{numberIn, bytesOf, numbersIn, bytesOfAll, imageBytes, tableIn, imageOf}
-use Rattle.images.proofs.Fields.{bytes-count}
-use Rattle.images.proofs.Inverses.{Below, undone, below-drop, number-of-bytes, bytes-of-part, numbers-of-bytes, bytes-of-numbers, numbers-below}
+use Rattle.words.specs.Words.{numberIn, bytesOf}
+use Rattle.words.proofs.Bytes.{bytes-count}
+use Rattle.words.proofs.Inverses.{Below, below-drop, number-of-bytes, bytes-of-part}
+use Rattle.images.specs.Image.{numbersIn, bytesOfAll, imageBytes, tableIn, imageOf}
+use Rattle.images.proofs.Inverses.{undone, numbers-of-bytes, bytes-of-numbers, numbers-below}
 use Rattle.images.proofs.Whole.{tableOfParts, threshold-bytes, image-count}
 
 -- a table whose arrays have 64 slots each and whose numbers fit their types
@@ -47,7 +49,8 @@ module _ (t : LeapTable) (h : Typed t) where
 
   len-kept : numberIn (take 8 (front ++ middle ++ back)) ≡ t .len
   len-kept =
-      ap (λ (l : List ℕ). numberIn (take 8 l)) parted ∙ ap numberIn (take-at front (middle ++ back) 8 (bytes-count 8 (t .len)))
+      ap (λ (l : List ℕ). numberIn (take 8 l)) parted
+      ∙ ap numberIn (take-at front (middle ++ back) 8 (bytes-count 8 (t .len)))
       ∙ number-of-bytes 8 (t .len) (h .len)
 
   thresholds-kept : numbersIn 8 8 64 (drop 8 (front ++ middle ++ back)) ≡ t .thresholds
@@ -68,7 +71,9 @@ module _ (t : LeapTable) (h : Typed t) where
       ∙ undone (pos 0) (ofZ w32) (toZ w32) (t .offsets) (λ i. toZ-ofZ (h .offsets i))
     where
       before : length (front ++ middle) ≡ 520
-      before = length-append front middle ∙ omega (arith, bytes-count 8 (t .len), threshold-bytes t (h .sized .thresholds) (h .sized .offsets))
+      before =
+          length-append front middle
+          ∙ omega (arith, bytes-count 8 (t .len), threshold-bytes t (h .sized .thresholds) (h .sized .offsets))
 
   table-kept : tableIn (imageOf t) ≡ t
   unfolding tableIn imageOf

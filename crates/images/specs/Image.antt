@@ -1,25 +1,17 @@
--- Leap-second tables and entries as bytes, low byte first.
+-- Leap-second tables as bytes, low byte first.
 use mathlib.Core.Bool.{Bool, cond}
 use mathlib.Core.List.{List, [], _∷_, _++_, map}
-use Prim.Native.Nat.{ℕ, zero, suc, _+_, _*_, _/_, _%_}
+use Prim.Native.Nat.{ℕ, zero, suc, _+_, _*_}
 use lib.Dec.{eqb}
 use lib.ListN.{length, take, drop}
 use mir.Syntax.{w32}
 use mir.Val.{toZ, ofZ}
-use Rattle.refusals.specs.Outcome.{Outcome}
-use Rattle.tables.specs.Entries.{Entry, entry}
+use Rattle.refusals.specs.Outcome.{Outcome, refused}
+use Rattle.words.specs.Words.{numberIn, bytesOf}
+use Rattle.tables.specs.Entries.{Entry}
 use Rattle.tables.specs.Slots.{entriesOf, ofValid, tableOf, built, extended}
 use Rattle.tables.specs.declared.LeapTable.{LeapTable}
-
--- the number that bytes hold
-unfoldable pub numberIn : List ℕ → ℕ
-numberIn [] = 0
-numberIn (b ∷ bs) = b + 256 * numberIn bs
-
--- a number in k bytes
-unfoldable pub bytesOf : ℕ → ℕ → List ℕ
-bytesOf zero n = []
-bytesOf (suc k) n = n % 256 ∷ bytesOf k (n / 256)
+use Rattle.images.specs.Listed.{whole, entriesIn}
 
 -- n numbers of k bytes each, every one `stride` bytes after the one before
 unfoldable pub numbersIn : (k stride n : ℕ) → List ℕ → List ℕ
@@ -31,7 +23,7 @@ unfoldable pub bytesOfAll : ℕ → List ℕ → List ℕ
 bytesOfAll k [] = []
 bytesOfAll k (n ∷ ns) = bytesOf k n ++ bytesOfAll k ns
 
--- where the offsets of an image begin: behind a length of 8 bytes and 64 thresholds of 8
+-- where the offsets of an image begin: after a length of 8 bytes and 64 thresholds of 8
 abbrev pub offsetsAt : ℕ
 offsetsAt = 8 + 64 * 8
 
@@ -55,26 +47,9 @@ tableIn b = record {
 unfoldable pub imageOf : LeapTable → List ℕ
 imageOf t = bytesOf 8 (t .len) ++ bytesOfAll 8 (t .thresholds) ++ bytesOfAll 4 (map (ofZ w32) (t .offsets))
 
--- n entries of 12 bytes: 8 of the threshold, 4 of the offset
-unfoldable pub entriesFrom : ℕ → List ℕ → List Entry
-entriesFrom zero bs = []
-entriesFrom (suc n) bs = entry (numberIn (take 8 bs)) (toZ w32 (numberIn (take 4 (drop 8 bs)))) ∷ entriesFrom n (drop 12 bs)
-
--- all whole entries in a list of bytes
-abbrev pub entriesIn : List ℕ → List Entry
-entriesIn b = entriesFrom (length b / 12) b
-
--- a table that is not valid: it says that it has 65 entries
-abbrev pub noTable : LeapTable
-noTable = record { thresholds = tableOf [] .thresholds; offsets = tableOf [] .offsets; len = 65 }
-
--- the table of an image; bytes of another size are no valid table
-abbrev pub tableOfImage : List ℕ → LeapTable
-tableOfImage b = cond (sized b) (tableIn b) noTable
-
 -- what a call answers by the table of an image: 8 where the bytes are no image or hold no valid table
 abbrev pub byImage : {A : Type 0} → List ℕ → (List Entry → Outcome A) → Outcome A
-byImage b answer = ofValid (tableOfImage b) (answer (entriesOf (tableOfImage b)))
+byImage b answer = cond (sized b) (ofValid (tableIn b) (answer (entriesOf (tableIn b)))) (refused 8)
 
 -- 0 and the table of an image, or 8 and the empty table
 abbrev pub imageRead : List ℕ → ℕ × LeapTable
@@ -86,7 +61,7 @@ imageWritten t b = cond (sized b) (0, imageOf t) (8, b)
 
 -- building from bytes: 8 where they are no whole number of entries
 abbrev pub builtFrom : List ℕ → ℕ × LeapTable
-builtFrom b = cond (eqb (length b % 12) 0) (built (entriesIn b)) (8, tableOf [])
+builtFrom b = cond (whole b) (built (entriesIn b)) (8, tableOf [])
 
 -- the image of the table afterwards, or the refusal's number and the bytes as they were
 abbrev pub stored : List ℕ → ℕ × LeapTable → ℕ × List ℕ

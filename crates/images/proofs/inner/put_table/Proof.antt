@@ -1,42 +1,83 @@
--- `inner::put_table` writes the three parts of an image one after the other.
-use mathlib.Core.Path.{ap, _∙_}
-use mathlib.Core.List.{List, map}
-use Prim.Native.Nat.{ℕ}
-use lib.Seq.{sets}
-use mir.Syntax.{w32}
-use mir.Val.{ofZ}
-use Rattle.images.specs.Image.{bytesOfAll}
+-- `inner::put_table` writes the length, and then a threshold and an offset at each turn.
+use mathlib.Core.Path.{_≡_, sym, ap, _∙_}
+use mathlib.Core.List.{List}
+use Prim.Native.Nat.{ℕ, _+_, _-_, _*_, _≤_}
+use native.Mathlib.Omega.{arith}
 use borrow.Author.Needs.{needs}
 use denote.Ref.{now}
-use Rattle.images.proofs.Whole.{parts-written}
-use Rattle.images.proofs.inner.put_table.Statement.{statement}
-use Rattle.images.proofs.inner.put_table.Tie as tie
+use lib.ListN.{length, getD}
+use lib.Seq.{sets}
+use lib.IntN.{pos}
+use mir.Syntax.{w32}
+use mir.Val.{SFits, ofZ}
+use mir.Facts.{toZ-ofZ}
+use Rattle.words.specs.Words.{bytesOf}
+use Rattle.images.specs.Image.{imageOf}
+use Rattle.images.proofs.Whole.{writtenFrom, length-written, slot-written, all-slots-written}
+use Rattle.images.proofs.inner.put_table as call
 
-put-number-requires : tie.Need-put-number-requires
-put-number-requires c κs = search needs
+abbrev Inv-loop : call.Tie.InvT-loop
+Inv-loop image₀ table i₀ image i = (i ≤ 64) × (length image ≡ 776) × (writtenFrom table i image ≡ imageOf table)
 
-put-thresholds-requires : tie.Need-put-thresholds-requires
-put-thresholds-requires c κs = search needs
+abbrev μ-loop : call.Tie.MeasureT-loop
+μ-loop image₀ table i₀ image i = 64 - i
 
-put-offsets-requires : tie.Need-put-offsets-requires
-put-offsets-requires c κs = search needs
+sizes : (c : call.Tie.Start Inv-loop μ-loop)
+    → (length (c .args .t2 .thresholds) ≡ 64) × (length (c .args .t2 .offsets) ≡ 64)
+sizes c = (search needs, search needs)
 
-same-length : tie.Need-same-length
-same-length c = search needs
+loop-holds : call.Tie.Need-loop-holds Inv-loop μ-loop
+loop-holds c =
+    let first = c .before .before in
+    let start = first .before .before .before in
+    let a = start .args in
+    (search needs, search needs, ap (writtenFrom (a .t2) 0) (first .put-number .ensures) ∙ length-written (a .t2) (sizes start .0) (sizes start .1) (now (a .image)) (search needs))
 
-returns : tie.Need-returns
-returns c =
+loop-again : call.Tie.Need-loop-again Inv-loop μ-loop
+loop-again c =
     let third = c .before .before in
-    let second = third .before .before .before .before .before .before .before in
-    let first = second .before .before .before .before .before .before .before in
-    let a = first .before .before .before .args in
-    let t = a .t2 in
-    third .put-offsets .ensures
-    ∙ ap (λ (l : List ℕ). sets l 520 (bytesOfAll 4 (map (ofZ w32) (t .offsets))))
-    (second .put-thresholds .ensures ∙ ap (λ (l : List ℕ). sets l 8 (bytesOfAll 8 (t .thresholds))) (first .put-number .ensures))
-    ∙ parts-written t (search needs) (search needs) (now (a .image)) (search needs)
+    let bits = third .before .before .complement in
+    let second = third .before .before .before .before .before .before in
+    let at = second .before .before .before .before in
+    let start = at .before .before .before .before .before .before in
+    let t = start .args .t2 in
+    let s = at .loop in
+    let fits : SFits w32 (getD (t .offsets) (s .i) (pos 0)) = search needs in (
+      search needs,
+      search needs,
+      ap (writtenFrom t (s .i + 1)) (third .put-number3 .ensures ∙ ap (λ (l : List ℕ). sets l (520 + 4 * s .i) (bytesOf 4 (bits .result))) (second .put-number2 .ensures))
+          ∙ slot-written t (sizes start .0) (sizes start .1) (s .image) (s .i) (bits .result) (omega arith) (bits .ensures ∙ ap (ofZ w32) (toZ-ofZ fits)) ∙ s .inv .2,
+    )
 
-pub put-table-spec : {M : Type 1} → statement M
+returns : call.Tie.Need-returns Inv-loop μ-loop
+returns c =
+    let s = c .before .loop in
+    let start = c .before .before .before .before .before .before .before in
+    sym (all-slots-written (start .args .t2) (sizes start .0) (sizes start .1) (s .image) (s .i) (omega arith))
+    ∙ s .inv .2
+
+pub put-table-spec : {M : Type 1} → call.Statement.statement M
 put-table-spec =
-    tie.close
-    (tie.spec put-number-requires put-thresholds-requires put-offsets-requires same-length returns)
+    call.Tie.close
+    (call.Tie.spec
+    Inv-loop
+    μ-loop
+    (λ c κs. search needs)
+    loop-holds
+    (λ c. search needs)
+    (λ c. search needs)
+    (λ c. search needs)
+    (λ c. search needs)
+    (λ c κs. search needs)
+    (λ c. search needs)
+    (λ c. search needs)
+    (λ c κs. search needs)
+    (λ c. search needs)
+    (λ c. search needs)
+    (λ c. search needs)
+    (λ c κs. search needs)
+    (λ c. search needs)
+    (λ c. search needs)
+    loop-again
+    (λ c. search needs)
+    returns)

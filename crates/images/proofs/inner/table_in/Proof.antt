@@ -2,27 +2,15 @@
 use borrow.Author.Needs.{needs}
 use denote.Ref.{now}
 use Rattle.images.proofs.Whole.{parts-read}
-use Rattle.images.proofs.inner.table_in.Statement.{statement}
-use Rattle.images.proofs.inner.table_in.Tie as tie
+use Rattle.images.proofs.inner.table_in as call
 
-thresholds-at-requires : tie.Need-thresholds-at-requires
-thresholds-at-requires c κs = search needs
-
-offsets-at-requires : tie.Need-offsets-at-requires
-offsets-at-requires c κs = search needs
-
-number-at-requires : tie.Need-number-at-requires
-number-at-requires c κs = search needs
-
-returns : tie.Need-returns
+returns : call.Tie.Need-returns
 returns c =
-    let offsets = c .before .offsets-at in
-    let thresholds = c .before .before .thresholds-at in
-    parts-read (now (c .before .before .before .before .args .image)) (thresholds .result) (offsets .result) (c .number-at .result) (search needs) (search needs)
-    (thresholds .ensures)
-    (offsets .ensures)
-    (c .number-at .ensures .0)
+    let slots = c .before .before .before .slots-at in
+    parts-read (now (c .before .before .before .before .before .args .image)) (slots .result) (c .number-in-8 .result) (search needs) (search needs)
+    (slots .ensures .0)
+    (slots .ensures .1)
+    (c .number-in-8 .ensures)
 
-pub table-in-spec : {M : Type 1} → statement M
-table-in-spec =
-    tie.close (tie.spec thresholds-at-requires offsets-at-requires number-at-requires returns)
+pub table-in-spec : {M : Type 1} → call.Statement.statement M
+table-in-spec = call.Tie.close (call.Tie.spec (λ c κs. search needs) (λ c κs. search needs) returns)

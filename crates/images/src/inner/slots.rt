@@ -1,0 +1,53 @@
+// The slots of the table in an image of 776 bytes, each read where it stands.
+ghost use mathlib.Core.Path.{_≡_};
+ghost use Prim.Native.Nat.{_<_};
+ghost use lib.ListN.{length, getD};
+ghost use lib.IntN.{pos};
+ghost use Rattle.tables.specs.Slots.{slotAt};
+ghost use Rattle.images.specs.Image.{imageBytes, tableIn};
+use crate::inner::LENGTH_BYTES;
+use crate::inner::OFFSET_BYTES;
+use crate::inner::OFFSETS_AT;
+use crate::inner::THRESHOLD_BYTES;
+use tables::LeapEntry;
+use words::inner::number_in_4;
+use words::inner::number_in_8;
+use words::inner::signed;
+
+// The length that the table in an image says it has.
+pub fn len(image: &[u8]) -> usize
+    requires { ⌜ length (now image) ≡ imageBytes ⌝ }
+    ensures { λ r. ⌜ r ≡ tableIn (now (image .entry)) .len ⌝ }
+{
+    number_in_8(image, 0) as usize
+}
+
+// The threshold in slot i.
+pub fn threshold(image: &[u8], i: usize) -> u64
+    requires { ⌜ length (now image) ≡ imageBytes ⌝ }
+    requires { ⌜ i < 64 ⌝ }
+    ensures { λ r. ⌜ r ≡ getD (tableIn (now (image .entry)) .thresholds) i 0 ⌝ }
+{
+    number_in_8(image, LENGTH_BYTES + THRESHOLD_BYTES * i)
+}
+
+// The offset in slot i.
+pub fn offset(image: &[u8], i: usize) -> i32
+    requires { ⌜ length (now image) ≡ imageBytes ⌝ }
+    requires { ⌜ i < 64 ⌝ }
+    ensures { λ r. ⌜ r ≡ getD (tableIn (now (image .entry)) .offsets) i (pos 0) ⌝ }
+{
+    signed(number_in_4(image, OFFSETS_AT + OFFSET_BYTES * i) as u32)
+}
+
+// The entry in slot i.
+pub fn entry(image: &[u8], i: usize) -> LeapEntry
+    requires { ⌜ length (now image) ≡ imageBytes ⌝ }
+    requires { ⌜ i < 64 ⌝ }
+    ensures { λ r. ⌜ r ≡ slotAt (tableIn (now (image .entry)) .thresholds) (tableIn (now (image .entry)) .offsets) i ⌝ }
+{
+    LeapEntry {
+        tai_nanos: threshold(image, i),
+        tai_minus_utc: offset(image, i),
+    }
+}

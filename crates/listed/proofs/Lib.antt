@@ -1,2 +1,0 @@
-mod InBytes
-pub mod Calls
