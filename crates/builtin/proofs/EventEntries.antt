@@ -6,7 +6,8 @@ use Prim.Native.Nat.{ℕ, suc, _+_, _*_, _^_}
 use native.Mathlib.Omega.{arith}
 use lib.Dec.{ltb}
 use lib.IntN.{ℤ, pos, negsuc, subℕ, _+ℤ_, _-ℤ_, _*ℤ_, -ℤ-+ℤ-cancel}
-use Rattle.refusals.specs.Outcome.{Outcome, answered, refused}
+use Rattle.refusals.proofs.Steps.{goes-on, stops}
+use Rattle.refusals.specs.Outcome.{Outcome, answered, refused, then}
 use Rattle.counts.specs.Units.{second, daySeconds}
 use Rattle.counts.specs.Exact.{countOf}
 use Rattle.counts.proofs.Difference.{not-below, below, same, of-naturals}
@@ -16,9 +17,8 @@ use Rattle.calendar.specs.Dates.{utcEpochDay}
 use Rattle.calendar.proofs.Sums.{sum, times}
 use Rattle.civil.specs.Fields.{onDay, countAt}
 use Rattle.civil.proofs.CivilTheorems.{by-the-calendar}
-use Rattle.tables.specs.Entries.{Entry, entry}
-use Rattle.conversions.specs.Conversions.{E, inNanos, then}
-use Rattle.conversions.proofs.OneThenAnother.{goes-on, stops}
+use Rattle.tables.specs.Entries.{Entry}
+use Rattle.conversions.specs.Conversions.{E, inNanos}
 use Rattle.builtin.specs.Builtin.{gpsEpochUnix, events, thresholdOf, entriesFrom}
 use Rattle.builtin.specs.Events.{midnight, eventThreshold, entryOfEvent}
 
@@ -90,7 +90,8 @@ by-utc d n utc h = by-day (dayOf d) (dayOf d -ℤ pos utcEpochDay) n utc refl h
 
 -- ---- for real dates
 pub by-calendar : EventsGoByTheCalendar
-by-calendar d z n e = either (countAt (midnight d)) refl ∙ ap (λ (o : Outcome ℕ). then o read) (by-the-calendar (midnight d) z e)
+by-calendar d z n e =
+    either (countAt (midnight d)) refl ∙ ap (λ (o : Outcome ℕ). then o read) (by-the-calendar (midnight d) z e)
   where
     read : ℕ → Outcome ℕ
     read utc = countOf (pos utc -ℤ pos E +ℤ inNanos n)

@@ -5,7 +5,7 @@ use Prim.Native.Nat.{ℕ, _+_}
 use lib.IntN.{ℤ, pos}
 use lib.Signed.{leZ}
 use Rattle.refusals.specs.Number.{numberOf}
-use Rattle.refusals.specs.Outcome.{Outcome, answered, refused}
+use Rattle.refusals.specs.Outcome.{Outcome, answered, refused, then}
 use Rattle.counts.specs.Exact.{countOf}
 use Rattle.calendar.specs.Calendar.{Date}
 use Rattle.calendar.specs.Formula.{dayOf}
@@ -14,7 +14,6 @@ use Rattle.calendar.specs.declared.epochs.Epoch.the-variants as epoch
 use Rattle.civil.specs.Fields.{fields, countAt}
 use Rattle.civil.specs.declared.CivilDateTime.{CivilDateTime}
 use Rattle.tables.specs.Entries.{Entry, entry}
-use Rattle.conversions.specs.Conversions.{then}
 use Rattle.builtin.specs.Builtin.{events, thresholdOf}
 use Rattle.builtin.specs.declared.events.EventAnswer.{EventAnswer}
 use Rattle.builtin.specs.declared.events.EventAnswer.the-variants as event

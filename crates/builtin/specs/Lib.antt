@@ -1,3 +1,3 @@
 pub mod Builtin
 pub mod Events
-pub mod Passed
+pub mod Reached

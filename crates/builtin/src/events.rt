@@ -11,7 +11,7 @@ ghost use Rattle.conversions.specs.Conversions.{E, inNanos};
 ghost use Rattle.builtin.specs.Events.{eventIn, midnight, eventThreshold, entryOfEvent};
 use calendar::CivilDate;
 use civil::CivilDateTime;
-use conversions::inner::utc_less_tai;
+use conversions::inner::utc_minus_tai;
 use counts::CountAnswer;
 use counts::Duration;
 use counts::sums;
@@ -44,7 +44,7 @@ fn utc_at_midnight(date: CivilDate) -> CountAnswer
 fn tai_at(utc: u64, offset: i32) -> CountAnswer
     ensures { λ r. ⌜ countIn r ≡ countOf (pos utc -ℤ pos E +ℤ inNanos offset) ⌝ }
 {
-    sums::earlier(utc, Duration(utc_less_tai(offset)))
+    sums::earlier(utc, Duration(utc_minus_tai(offset)))
 }
 
 fn threshold(date: CivilDate, tai_minus_utc: i32) -> CountAnswer

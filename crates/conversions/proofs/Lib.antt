@@ -1,6 +1,5 @@
 pub mod Shifts
 pub mod SinceEpoch
-pub mod OneThenAnother
-pub mod ByWayOfUtc
+pub mod ByLookup
 pub mod Tells
 pub mod Calls

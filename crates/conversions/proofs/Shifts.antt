@@ -1,4 +1,5 @@
--- Shifts by seconds: the machine's 64-bit steps hold them, and what they are added to makes no difference to the exact sum.
+-- Shifts by seconds: the machine's 64-bit steps hold them, and what they are added to makes no difference to the exact
+-- sum.
 use mathlib.Core.Path.{_≡_, sym, ap, _∙_}
 use Prim.Native.Nat.{ℕ, zero, suc, _+_, _-_, _*_, _≤_, _<_, _^_}
 use native.Mathlib.Omega.{arith}
@@ -27,7 +28,8 @@ nanos-fit (pos a) h = record { sfits = omega arith }
 nanos-fit (negsuc a) h = neg-fits (suc a * 1_000_000_000) (omega arith)
 
 pub shift-fits : (z : ℤ) → mag z < 2 ^ 32 → SFits w64 (pos E -ℤ inNanos z)
-shift-fits (pos a) h = rw (of-naturals E (a * 1_000_000_000)) (difference-fits E (a * 1_000_000_000) (omega arith) (omega arith))
+shift-fits (pos a) h =
+    rw (of-naturals E (a * 1_000_000_000)) (difference-fits E (a * 1_000_000_000) (omega arith) (omega arith))
 shift-fits (negsuc a) h = rw (negℤ-negℤ (pos (suc a * 1_000_000_000))) (record { sfits = omega arith })
 
 -- a 32-bit offset less 19
@@ -60,3 +62,21 @@ pub first-is : (u : ℕ) → pos u -ℤ pos (E - 19_000_000_000) ≡ pos u -ℤ 
 first-is u =
     of-naturals u (E - 19_000_000_000) ∙ same u (E - 19_000_000_000) (u + 19_000_000_000) E (omega arith)
     ∙ sym (plus u E 19_000_000_000) ∙ ap (λ (z : ℤ). z +ℤ pos 19_000_000_000) (sym (of-naturals u E))
+
+-- a GPS count and its TAI reading are 19 s apart, and so are the seconds taken from them
+pub tai-less : (g : ℕ) (n : ℤ) → pos (g + 19_000_000_000) -ℤ inNanos n ≡ pos g -ℤ inNanos (n -ℤ pos 19)
+tai-less g (pos a) = by-order (decLt a 19)
+  where
+    by-order : Dec (a < 19) → pos (g + 19_000_000_000) -ℤ pos (a * 1_000_000_000) ≡ pos g -ℤ inNanos (subℕ a 19)
+    by-order (yes l) =
+        rw (below a 19 l, negℤ-negℤ (pos (suc (19 - suc a) * 1_000_000_000)))
+        (of-naturals (g + 19_000_000_000) (a * 1_000_000_000)
+        ∙ not-below (g + 19_000_000_000) (a * 1_000_000_000) (omega arith) ∙ ap pos (omega arith))
+    by-order (no l) =
+        let h : 19 ≤ a = omega (arith, l) in
+        rw (not-below a 19 h)
+        (of-naturals (g + 19_000_000_000) (a * 1_000_000_000)
+        ∙ same (g + 19_000_000_000) (a * 1_000_000_000) g ((a - 19) * 1_000_000_000) (omega arith)
+        ∙ sym (of-naturals g ((a - 19) * 1_000_000_000)))
+tai-less g (negsuc a) =
+    rw (negℤ-negℤ (pos (suc a * 1_000_000_000)), negℤ-negℤ (pos (suc (suc (a + 18)) * 1_000_000_000))) (ap pos (omega arith))

@@ -4,9 +4,10 @@ use mathlib.Core.List.{List}
 use Prim.Native.Nat.{ℕ, _+_, _*_, _/_}
 use lib.IntN.{ℤ, pos, negsuc, _+ℤ_, _-ℤ_, _*ℤ_}
 use lib.Signed.{ltZ}
-use Rattle.refusals.specs.Outcome.{Outcome, answered, refused, valueIn}
-use Rattle.counts.specs.Exact.{countOf}
+use Rattle.refusals.specs.Outcome.{Outcome, refused, valueIn, then, changed}
+use Rattle.counts.specs.Exact.{countOf, up, down}
 use Rattle.counts.specs.Units.{second, unixOffset}
+use Rattle.scales.specs.Scales.{taiMinusGps}
 use Rattle.tables.specs.Entries.{Entry, offsetAt}
 
 -- E: 1972-01-01 to 1980-01-06
@@ -29,18 +30,13 @@ countOr d z = valueIn d (countOf z)
 abbrev pub inRange : ℤ → Outcome ℕ → Outcome ℕ
 inRange n a = cond (ltZ n (negsuc 2_147_483_628)) (refused 9) a
 
--- one step and then another, or the refusal of the first
-abbrev pub then : {A B : Type 0} → Outcome A → (A → Outcome B) → Outcome B
-then (answered a) next = next a
-then (refused k) next = refused k
-
 -- UTC = GPS − (n − 19) s + E
-abbrev pub utcBy : ℤ → ℕ → Outcome ℕ
-utcBy n gps = inRange n (countOf (pos gps -ℤ inNanos (n -ℤ pos 19) +ℤ pos E))
+abbrev pub utcAtOffset : ℤ → ℕ → Outcome ℕ
+utcAtOffset n gps = inRange n (countOf (pos gps -ℤ inNanos (n -ℤ pos 19) +ℤ pos E))
 
 -- GPS to UTC: n = lookup(GPS + 19 s)
 abbrev pub gpsToUtc : List Entry → ℕ → Outcome ℕ
-gpsToUtc es gps = then (countOf (pos (gps + 19 * second))) (λ tai. utcBy (offsetAt es tai) gps)
+gpsToUtc es gps = then (up taiMinusGps gps) (λ tai. utcAtOffset (offsetAt es tai) gps)
 
 -- a = UTC − E + 19 s, or 0 if that is no count
 abbrev pub firstReading : ℕ → ℕ
@@ -50,39 +46,36 @@ firstReading utc = countOr 0 (pos utc -ℤ pos E +ℤ inNanos (pos 19))
 abbrev pub secondReading : ℕ → ℤ → ℕ → ℕ
 secondReading utc n1 a = countOr a (pos utc -ℤ pos E +ℤ inNanos n1)
 
--- GPS = UTC − E + (n − 19) s
-abbrev pub gpsBy : ℤ → ℕ → Outcome ℕ
-gpsBy n utc = inRange n (countOf (pos utc -ℤ pos E +ℤ inNanos (n -ℤ pos 19)))
-
--- UTC to GPS: n1 = lookup(a), n = lookup(b)
-abbrev pub utcToGps : List Entry → ℕ → Outcome ℕ
-utcToGps es utc =
+-- the TAI reading that is looked up last: n1 = lookup(a), then b
+abbrev pub lastReading : List Entry → ℕ → ℕ
+lastReading es utc =
     let a = firstReading utc in
-    let n1 = offsetAt es a in
-    let b = secondReading utc n1 a in
-    let n = offsetAt es b in
-    gpsBy n utc
+    secondReading utc (offsetAt es a) a
 
-abbrev pub glonassToUtc : ℕ → Outcome ℕ
-glonassToUtc glonass = countOf (pos (glonass + glonassEpoch))
+-- GPS = UTC − E + (n − 19) s
+abbrev pub gpsAtOffset : ℤ → ℕ → Outcome ℕ
+gpsAtOffset n utc = inRange n (countOf (pos utc -ℤ pos E +ℤ inNanos (n -ℤ pos 19)))
 
-abbrev pub utcToGlonass : ℕ → Outcome ℕ
-utcToGlonass utc = countOf (pos utc -ℤ pos glonassEpoch)
+-- UTC to GPS: n = lookup(b)
+abbrev pub utcToGps : List Entry → ℕ → Outcome ℕ
+utcToGps es utc = gpsAtOffset (offsetAt es (lastReading es utc)) utc
 
--- GLONASS and GPS go by way of UTC
+-- ---- the other scales are steps before and after
 abbrev pub glonassToGps : List Entry → ℕ → Outcome ℕ
-glonassToGps es glonass = then (glonassToUtc glonass) (utcToGps es)
+glonassToGps es glonass = then (up glonassEpoch glonass) (utcToGps es)
 
 abbrev pub gpsToGlonass : List Entry → ℕ → Outcome ℕ
-gpsToGlonass es gps = then (gpsToUtc es gps) utcToGlonass
+gpsToGlonass es gps = then (gpsToUtc es gps) (down glonassEpoch)
 
--- Unix seconds to GPS, by way of UTC
-abbrev pub unixToGps : List Entry → ℤ → Outcome ℕ
-unixToGps es s = then (countOf (inNanos (s -ℤ pos unixOffset))) (utcToGps es)
+abbrev pub unixToUtc : ℤ → Outcome ℕ
+unixToUtc s = countOf (inNanos (s -ℤ pos unixOffset))
 
 -- the whole Unix seconds of a UTC count
-abbrev pub unixOf : ℕ → Outcome ℤ
-unixOf utc = answered (pos (utc / second + unixOffset))
+abbrev pub utcToUnix : ℕ → ℤ
+utcToUnix utc = pos (utc / second + unixOffset)
+
+abbrev pub unixToGps : List Entry → ℤ → Outcome ℕ
+unixToGps es s = then (unixToUtc s) (utcToGps es)
 
 abbrev pub gpsToUnix : List Entry → ℕ → Outcome ℤ
-gpsToUnix es gps = then (gpsToUtc es gps) unixOf
+gpsToUnix es gps = changed utcToUnix (gpsToUtc es gps)

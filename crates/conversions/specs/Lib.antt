@@ -1,2 +1,3 @@
 pub mod Conversions
+pub mod ByLookup
 pub mod Answers

@@ -1,82 +1,76 @@
-// The conversions on plain counts, over lent thresholds and offsets of which the first n count and are valid.
-pub mod after_utc;
+// The conversions between GPS and UTC in parts, on plain counts, whatever store the lookups are made in. A count may
+// come from a step before: what that refused stays refused.
+pub mod by_table;
+pub mod steps;
 
 ghost use mathlib.Core.Path.{_≡_};
-ghost use mathlib.Core.Bool.{true};
-ghost use Prim.Native.Nat.{_≤_, _<_, _^_};
-ghost use lib.ListN.{length};
+ghost use Prim.Native.Nat.{_<_, _^_};
 ghost use lib.IntN.{pos, _-ℤ_};
 ghost use lib.Signed.{mag};
-ghost use Rattle.tables.specs.Entries.{valid};
-ghost use Rattle.tables.specs.Slots.{slots};
-ghost use Rattle.refusals.specs.Outcome.{valueIn};
+ghost use Rattle.refusals.specs.Outcome.{valueIn, then};
+ghost use Rattle.counts.specs.Exact.{up};
 ghost use Rattle.counts.specs.Answers.{countIn};
-ghost use Rattle.conversions.specs.Conversions.{E, inNanos, utcBy, gpsBy, firstReading, secondReading, gpsToUtc, utcToGps, glonassToUtc, utcToGlonass, glonassToGps, gpsToGlonass, unixToGps, gpsToUnix};
-ghost use Rattle.conversions.specs.Answers.{unixIn};
-use crate::UnixAnswer;
+ghost use Rattle.scales.specs.Scales.{taiMinusGps};
+ghost use Rattle.tables.specs.Answers.{lookupIn};
+ghost use Rattle.conversions.specs.Conversions.{E, inNanos, gpsAtOffset, firstReading, secondReading};
+ghost use Rattle.conversions.specs.ByLookup.{utcOfTai, utcFromLookup, firstFor, lastFor, gpsFromLookup};
 use counts::CountAnswer;
 use counts::Duration;
 use counts::sums;
 use counts::units;
-use counts::unix;
 use refusals::Refusal;
-use tables::inner::offset_at;
+use scales::gps_weeks::TAI_MINUS_GPS_NS;
+use tables::Lookup;
+use tables::LookupAnswer;
 
 // 1972-01-01 to 1980-01-06: 2,927 days of 86,400 s
-const GPS_EPOCH_FROM_UTC_EPOCH_NS: u64 = 252_892_800 * units::NANOS_PER_SECOND;
+pub const GPS_EPOCH_FROM_UTC_EPOCH_NS: u64 = 252_892_800 * units::NANOS_PER_SECOND;
 
-// 1972-01-01 to 1995-12-31 21:00: 8,766 days of 86,400 s, less three hours
-const GLONASS_EPOCH_FROM_UTC_EPOCH_NS: u64 = 757_371_600 * units::NANOS_PER_SECOND;
-
-// TAI is 19 s ahead of GPS
-pub const TAI_MINUS_GPS_NS: u64 = 19 * units::NANOS_PER_SECOND;
-
-// Below it the offset less 19 does not fit 32 bits, and the offset is refused.
+// The least offset of which 19 less fits 32 bits. One below it is refused.
 const LEAST_OFFSET: i32 = -2_147_483_629;
 
-// The UTC count less the count since 1980-01-06 of a scale that leads UTC by so many seconds.
-fn utc_less(lead: i64) -> i64
+// UTC − scale, for a scale counted from 1980-01-06 that leads UTC by `lead` seconds.
+fn utc_minus_scale(lead: i64) -> i64
     requires { ⌜ mag lead < 2 ^ 32 ⌝ }
     ensures { λ r. ⌜ r ≡ pos E -ℤ inNanos lead ⌝ }
 {
     GPS_EPOCH_FROM_UTC_EPOCH_NS as i64 - lead * (units::NANOS_PER_SECOND as i64)
 }
 
-// The UTC count less the TAI reading, at an offset.
-pub fn utc_less_tai(offset: i32) -> i64
+// UTC − TAI, at an offset.
+pub fn utc_minus_tai(offset: i32) -> i64
     ensures { λ r. ⌜ r ≡ pos E -ℤ inNanos offset ⌝ }
 {
-    utc_less(offset as i64)
+    utc_minus_scale(offset as i64)
 }
 
-// The UTC count less the GPS count, at an offset.
-fn utc_less_gps(offset: i32) -> i64
+// UTC − GPS, at an offset.
+fn utc_minus_gps(offset: i32) -> i64
     ensures { λ r. ⌜ r ≡ pos E -ℤ inNanos (offset -ℤ pos 19) ⌝ }
 {
-    utc_less((offset as i64) - 19)
+    utc_minus_scale((offset as i64) - 19)
 }
 
-// The UTC count of a GPS count, at an offset.
-pub fn utc_by(offset: i32, gps: u64) -> CountAnswer
-    ensures { λ r. ⌜ countIn r ≡ utcBy offset gps ⌝ }
+// The UTC count of a TAI reading, at an offset.
+fn utc_at_offset(offset: i32, tai: u64) -> CountAnswer
+    ensures { λ r. ⌜ countIn r ≡ utcOfTai offset tai ⌝ }
 {
     if offset < LEAST_OFFSET {
         return CountAnswer::Refused(Refusal::OffsetRange);
     }
-    sums::later(gps, Duration(utc_less_gps(offset)))
+    sums::later(tai, Duration(utc_minus_tai(offset)))
 }
 
 // The GPS count of a UTC count, at an offset.
-pub fn gps_by(offset: i32, utc: u64) -> CountAnswer
-    ensures { λ r. ⌜ countIn r ≡ gpsBy offset utc ⌝ }
+fn gps_at_offset(offset: i32, utc: u64) -> CountAnswer
+    ensures { λ r. ⌜ countIn r ≡ gpsAtOffset offset utc ⌝ }
 {
     if offset < LEAST_OFFSET {
         return CountAnswer::Refused(Refusal::OffsetRange);
     }
-    sums::earlier(utc, Duration(utc_less_gps(offset)))
+    sums::earlier(utc, Duration(utc_minus_gps(offset)))
 }
 
-// The count where there is one, and else the other.
 fn count_or(answer: CountAnswer, other: u64) -> u64
     ensures { λ r. ⌜ r ≡ valueIn other (countIn answer) ⌝ }
 {
@@ -86,8 +80,7 @@ fn count_or(answer: CountAnswer, other: u64) -> u64
     }
 }
 
-// The TAI reading at which the first offset of a UTC count is looked up.
-pub fn first_reading(utc: u64) -> u64
+fn first_reading(utc: u64) -> u64
     ensures { λ r. ⌜ r ≡ firstReading utc ⌝ }
 {
     count_or(
@@ -96,102 +89,71 @@ pub fn first_reading(utc: u64) -> u64
     )
 }
 
-// The TAI reading at which the offset of a UTC count is looked up, by the first offset.
-pub fn second_reading(utc: u64, offset: i32, first: u64) -> u64
+fn second_reading(utc: u64, offset: i32, first: u64) -> u64
     ensures { λ r. ⌜ r ≡ secondReading utc offset first ⌝ }
 {
-    count_or(sums::earlier(utc, Duration(utc_less_tai(offset))), first)
+    count_or(sums::earlier(utc, Duration(utc_minus_tai(offset))), first)
 }
 
-pub fn gps_to_utc<'a>(thresholds: &'a [u64], offsets: &'a [i32], n: usize, gps: u64) -> CountAnswer
-    requires { ⌜ n ≤ length (now thresholds) ⌝ }
-    requires { ⌜ n ≤ length (now offsets) ⌝ }
-    requires { ⌜ valid (slots (now thresholds) (now offsets) n) ≡ true ⌝ }
-    ensures { λ r. ⌜ countIn r ≡ gpsToUtc (slots (now (thresholds .entry)) (now (offsets .entry)) n) gps ⌝ }
+// The TAI reading of a GPS count.
+pub fn tai_of(gps: CountAnswer) -> CountAnswer
+    ensures { λ r. ⌜ countIn r ≡ then (countIn gps) (up taiMinusGps) ⌝ }
 {
-    match sums::plus(gps, TAI_MINUS_GPS_NS) {
-        CountAnswer::Count(tai) => utc_by(offset_at(thresholds, offsets, n, tai), gps),
+    steps::up(gps, TAI_MINUS_GPS_NS)
+}
+
+// Where to look up: the reading, or 0 where there is none.
+pub fn reading_of(tai: CountAnswer) -> u64
+    ensures { λ r. ⌜ r ≡ valueIn 0 (countIn tai) ⌝ }
+{
+    count_or(tai, 0)
+}
+
+fn utc_of_reading(found: Lookup, tai: CountAnswer) -> CountAnswer
+    ensures { λ r. ⌜ countIn r ≡ utcFromLookup (countIn tai) found ⌝ }
+{
+    match tai {
+        CountAnswer::Count(reading) => utc_at_offset(found.offset, reading),
         CountAnswer::Refused(why) => CountAnswer::Refused(why),
     }
 }
 
-pub fn utc_to_gps<'a>(thresholds: &'a [u64], offsets: &'a [i32], n: usize, utc: u64) -> CountAnswer
-    requires { ⌜ n ≤ length (now thresholds) ⌝ }
-    requires { ⌜ n ≤ length (now offsets) ⌝ }
-    requires { ⌜ valid (slots (now thresholds) (now offsets) n) ≡ true ⌝ }
-    ensures { λ r. ⌜ countIn r ≡ utcToGps (slots (now (thresholds .entry)) (now (offsets .entry)) n) utc ⌝ }
+// A TAI reading as UTC, by what a lookup there tells.
+pub fn utc_from_lookup(found: LookupAnswer, tai: CountAnswer) -> CountAnswer
+    ensures { λ r. ⌜ countIn r ≡ then (lookupIn found) (utcFromLookup (countIn tai)) ⌝ }
 {
-    let a = first_reading(utc);
-    let n1 = offset_at(thresholds, offsets, n, a);
-    let b = second_reading(utc, n1, a);
-    gps_by(offset_at(thresholds, offsets, n, b), utc)
-}
-
-pub fn glonass_to_utc(glonass: u64) -> CountAnswer
-    ensures { λ r. ⌜ countIn r ≡ glonassToUtc glonass ⌝ }
-{
-    sums::plus(glonass, GLONASS_EPOCH_FROM_UTC_EPOCH_NS)
-}
-
-pub fn utc_to_glonass(utc: u64) -> CountAnswer
-    ensures { λ r. ⌜ countIn r ≡ utcToGlonass utc ⌝ }
-{
-    sums::minus(utc, GLONASS_EPOCH_FROM_UTC_EPOCH_NS)
-}
-
-pub fn glonass_to_gps<'a>(
-    thresholds: &'a [u64],
-    offsets: &'a [i32],
-    n: usize,
-    glonass: u64,
-) -> CountAnswer
-    requires { ⌜ n ≤ length (now thresholds) ⌝ }
-    requires { ⌜ n ≤ length (now offsets) ⌝ }
-    requires { ⌜ valid (slots (now thresholds) (now offsets) n) ≡ true ⌝ }
-    ensures { λ r. ⌜ countIn r ≡ glonassToGps (slots (now (thresholds .entry)) (now (offsets .entry)) n) glonass ⌝ }
-{
-    match glonass_to_utc(glonass) {
-        CountAnswer::Count(utc) => utc_to_gps(thresholds, offsets, n, utc),
-        CountAnswer::Refused(why) => CountAnswer::Refused(why),
+    match found {
+        LookupAnswer::Told(lookup) => utc_of_reading(lookup, tai),
+        LookupAnswer::Refused(why) => CountAnswer::Refused(why),
     }
 }
 
-pub fn gps_to_glonass<'a>(
-    thresholds: &'a [u64],
-    offsets: &'a [i32],
-    n: usize,
-    gps: u64,
-) -> CountAnswer
-    requires { ⌜ n ≤ length (now thresholds) ⌝ }
-    requires { ⌜ n ≤ length (now offsets) ⌝ }
-    requires { ⌜ valid (slots (now thresholds) (now offsets) n) ≡ true ⌝ }
-    ensures { λ r. ⌜ countIn r ≡ gpsToGlonass (slots (now (thresholds .entry)) (now (offsets .entry)) n) gps ⌝ }
+// The TAI reading for the first lookup of a UTC count, 0 where there is none.
+pub fn first_reading_of(utc: CountAnswer) -> u64
+    ensures { λ r. ⌜ r ≡ firstFor (countIn utc) ⌝ }
 {
-    after_utc::to_glonass(gps_to_utc(thresholds, offsets, n, gps))
-}
-
-pub fn unix_to_gps<'a>(
-    thresholds: &'a [u64],
-    offsets: &'a [i32],
-    n: usize,
-    seconds: i64,
-) -> CountAnswer
-    requires { ⌜ n ≤ length (now thresholds) ⌝ }
-    requires { ⌜ n ≤ length (now offsets) ⌝ }
-    requires { ⌜ valid (slots (now thresholds) (now offsets) n) ≡ true ⌝ }
-    ensures { λ r. ⌜ countIn r ≡ unixToGps (slots (now (thresholds .entry)) (now (offsets .entry)) n) seconds ⌝ }
-{
-    match unix::from_unix_seconds(seconds) {
-        CountAnswer::Count(utc) => utc_to_gps(thresholds, offsets, n, utc),
-        CountAnswer::Refused(why) => CountAnswer::Refused(why),
+    match utc {
+        CountAnswer::Count(count) => first_reading(count),
+        CountAnswer::Refused(_) => 0,
     }
 }
 
-pub fn gps_to_unix<'a>(thresholds: &'a [u64], offsets: &'a [i32], n: usize, gps: u64) -> UnixAnswer
-    requires { ⌜ n ≤ length (now thresholds) ⌝ }
-    requires { ⌜ n ≤ length (now offsets) ⌝ }
-    requires { ⌜ valid (slots (now thresholds) (now offsets) n) ≡ true ⌝ }
-    ensures { λ r. ⌜ unixIn r ≡ gpsToUnix (slots (now (thresholds .entry)) (now (offsets .entry)) n) gps ⌝ }
+// The TAI reading for the last lookup, by what the first one told at `reading`.
+pub fn last_reading_of(utc: CountAnswer, first: Lookup, reading: u64) -> u64
+    ensures { λ r. ⌜ r ≡ lastFor (countIn utc) first reading ⌝ }
 {
-    after_utc::to_unix(gps_to_utc(thresholds, offsets, n, gps))
+    match utc {
+        CountAnswer::Count(count) => second_reading(count, first.offset, reading),
+        CountAnswer::Refused(_) => reading,
+    }
+}
+
+// A UTC count as GPS, by what the last lookup tells.
+pub fn gps_from_lookup(found: Lookup, utc: CountAnswer) -> CountAnswer
+    ensures { λ r. ⌜ countIn r ≡ gpsFromLookup found (countIn utc) ⌝ }
+{
+    match utc {
+        CountAnswer::Count(count) => gps_at_offset(found.offset, count),
+        CountAnswer::Refused(why) => CountAnswer::Refused(why),
+    }
 }

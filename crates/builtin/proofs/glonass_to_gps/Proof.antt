@@ -1,17 +1,17 @@
--- `glonass_to_gps` meets its contract: the plain answer, on its scale.
-use mathlib.Core.Path.{_∙_}
+-- `glonass_to_gps`: the step to UTC, then UTC to GPS.
+use mathlib.Core.Path.{ap, _∙_}
+use Prim.Native.Nat.{ℕ}
+use Rattle.refusals.specs.Outcome.{Outcome, then}
+use Rattle.conversions.specs.Conversions.{utcToGps}
+use Rattle.builtin.specs.Builtin.{builtin}
 use borrow.Author.Needs.{needs}
-use Rattle.builtin.proofs.glonass_to_gps.Statement.{statement}
-use Rattle.builtin.proofs.glonass_to_gps.Tie as tie
+use Rattle.builtin.proofs.glonass_to_gps as call
 
-glonass-to-gps-requires : tie.Need-glonass-to-gps-requires
-glonass-to-gps-requires c κs = search needs
+returns : call.Tie.Need-returns
+returns c =
+    c .of .ensures ∙ c .before .gps-from-utc .ensures
+    ∙ ap (λ (o : Outcome ℕ). then o (utcToGps builtin)) (c .before .before .utc-from-glonass .ensures)
 
-of-requires : tie.Need-of-requires
-of-requires c κs = search needs
-
-returns : tie.Need-returns
-returns c = c .of .ensures ∙ c .before .glonass-to-gps .ensures
-
-pub glonass-to-gps-spec : {M : Type 1} → statement M
-glonass-to-gps-spec = tie.close (tie.spec glonass-to-gps-requires of-requires returns)
+pub glonass-to-gps-spec : {M : Type 1} → call.Statement.statement M
+glonass-to-gps-spec =
+    call.Tie.close (call.Tie.spec (λ c κs. search needs) (λ c κs. search needs) (λ c κs. search needs) returns)

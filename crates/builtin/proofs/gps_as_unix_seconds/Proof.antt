@@ -1,20 +1,13 @@
--- `gps_as_unix_seconds` meets its contract: the UTC answer goes on to Unix seconds.
+-- `gps_as_unix_seconds`: GPS to UTC, then the step to Unix seconds.
 use mathlib.Core.Path.{ap, _∙_}
+use Rattle.refusals.specs.Outcome.{changed}
+use Rattle.conversions.specs.Conversions.{utcToUnix}
 use borrow.Author.Needs.{needs}
-use Prim.Native.Nat.{ℕ}
-use Rattle.refusals.specs.Outcome.{Outcome}
-use Rattle.conversions.specs.Conversions.{then, unixOf}
-use Rattle.builtin.proofs.gps_as_unix_seconds.Statement.{statement}
-use Rattle.builtin.proofs.gps_as_unix_seconds.Tie as tie
+use Rattle.builtin.proofs.gps_as_unix_seconds as call
 
-gps-to-utc-requires : tie.Need-gps-to-utc-requires
-gps-to-utc-requires c κs = search needs
+returns : call.Tie.Need-returns
+returns c = c .unix-from-utc .ensures ∙ ap (changed utcToUnix) (c .before .utc-from-gps .ensures)
 
-to-unix-requires : tie.Need-to-unix-requires
-to-unix-requires c κs = search needs
-
-returns : tie.Need-returns
-returns c = c .to-unix .ensures ∙ ap (λ (o : Outcome ℕ). then o unixOf) (c .before .gps-to-utc .ensures)
-
-pub gps-as-unix-seconds-spec : {M : Type 1} → statement M
-gps-as-unix-seconds-spec = tie.close (tie.spec gps-to-utc-requires to-unix-requires returns)
+pub gps-as-unix-seconds-spec : {M : Type 1} → call.Statement.statement M
+gps-as-unix-seconds-spec =
+    call.Tie.close (call.Tie.spec (λ c κs. search needs) (λ c κs. search needs) returns)

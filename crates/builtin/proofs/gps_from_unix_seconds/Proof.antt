@@ -1,21 +1,19 @@
--- `gps_from_unix_seconds` meets its contract: the plain answer, on its scale.
+-- `gps_from_unix_seconds`: the step to UTC, then UTC to GPS.
 use mathlib.Core.Path.{ap, _∙_}
-use borrow.Author.Needs.{needs}
-use lib.IntN.{ℤ}
+use Prim.Native.Nat.{ℕ}
 use mir.Facts.{toZ-ofZ}
-use Rattle.conversions.specs.Conversions.{unixToGps}
+use Rattle.refusals.specs.Outcome.{Outcome, then}
+use Rattle.conversions.specs.Conversions.{utcToGps, unixToUtc}
 use Rattle.builtin.specs.Builtin.{builtin}
-use Rattle.builtin.proofs.gps_from_unix_seconds.Statement.{statement}
-use Rattle.builtin.proofs.gps_from_unix_seconds.Tie as tie
+use borrow.Author.Needs.{needs}
+use Rattle.builtin.proofs.gps_from_unix_seconds as call
 
-unix-to-gps-requires : tie.Need-unix-to-gps-requires
-unix-to-gps-requires c κs = search needs
+returns : call.Tie.Need-returns
+returns c =
+    c .of .ensures ∙ c .before .gps-from-utc .ensures
+    ∙ ap (λ (o : Outcome ℕ). then o (utcToGps builtin))
+    (c .before .before .from-unix-seconds .ensures ∙ ap unixToUtc (toZ-ofZ (c .before .before .before .fits .seconds)))
 
-of-requires : tie.Need-of-requires
-of-requires c κs = search needs
-
-returns : tie.Need-returns
-returns c = c .of .ensures ∙ c .before .unix-to-gps .ensures ∙ ap (λ (z : ℤ). unixToGps builtin z) (toZ-ofZ (c .before .before .fits .seconds))
-
-pub gps-from-unix-seconds-spec : {M : Type 1} → statement M
-gps-from-unix-seconds-spec = tie.close (tie.spec unix-to-gps-requires of-requires returns)
+pub gps-from-unix-seconds-spec : {M : Type 1} → call.Statement.statement M
+gps-from-unix-seconds-spec =
+    call.Tie.close (call.Tie.spec (λ c κs. search needs) (λ c κs. search needs) (λ c κs. search needs) returns)

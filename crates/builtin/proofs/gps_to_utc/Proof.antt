@@ -1,17 +1,10 @@
--- `gps_to_utc` meets its contract: the plain answer, on its scale.
+-- `gps_to_utc` is the plain conversion, on its scale.
 use mathlib.Core.Path.{_∙_}
 use borrow.Author.Needs.{needs}
-use Rattle.builtin.proofs.gps_to_utc.Statement.{statement}
-use Rattle.builtin.proofs.gps_to_utc.Tie as tie
+use Rattle.builtin.proofs.gps_to_utc as call
 
-gps-to-utc-requires : tie.Need-gps-to-utc-requires
-gps-to-utc-requires c κs = search needs
+returns : call.Tie.Need-returns
+returns c = c .of .ensures ∙ c .before .utc-from-gps .ensures
 
-of-requires : tie.Need-of-requires
-of-requires c κs = search needs
-
-returns : tie.Need-returns
-returns c = c .of .ensures ∙ c .before .gps-to-utc .ensures
-
-pub gps-to-utc-spec : {M : Type 1} → statement M
-gps-to-utc-spec = tie.close (tie.spec gps-to-utc-requires of-requires returns)
+pub gps-to-utc-spec : {M : Type 1} → call.Statement.statement M
+gps-to-utc-spec = call.Tie.close (call.Tie.spec (λ c κs. search needs) (λ c κs. search needs) returns)

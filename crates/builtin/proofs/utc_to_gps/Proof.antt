@@ -1,17 +1,10 @@
--- `utc_to_gps` meets its contract: the plain answer, on its scale.
+-- `utc_to_gps` is the plain conversion, on its scale.
 use mathlib.Core.Path.{_∙_}
 use borrow.Author.Needs.{needs}
-use Rattle.builtin.proofs.utc_to_gps.Statement.{statement}
-use Rattle.builtin.proofs.utc_to_gps.Tie as tie
+use Rattle.builtin.proofs.utc_to_gps as call
 
-utc-to-gps-requires : tie.Need-utc-to-gps-requires
-utc-to-gps-requires c κs = search needs
+returns : call.Tie.Need-returns
+returns c = c .of .ensures ∙ c .before .gps-from-utc .ensures
 
-of-requires : tie.Need-of-requires
-of-requires c κs = search needs
-
-returns : tie.Need-returns
-returns c = c .of .ensures ∙ c .before .utc-to-gps .ensures
-
-pub utc-to-gps-spec : {M : Type 1} → statement M
-utc-to-gps-spec = tie.close (tie.spec utc-to-gps-requires of-requires returns)
+pub utc-to-gps-spec : {M : Type 1} → call.Statement.statement M
+utc-to-gps-spec = call.Tie.close (call.Tie.spec (λ c κs. search needs) (λ c κs. search needs) returns)

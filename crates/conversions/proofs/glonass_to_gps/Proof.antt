@@ -1,32 +1,18 @@
--- `glonass_to_gps` tests the table and, where it is valid, lends its arrays to the conversion of plain counts.
-use mathlib.Core.Path.{sym, _∙_}
+-- `glonass_to_gps`: the step to UTC, then UTC to GPS.
+use mathlib.Core.Path.{ap, _∙_}
+use Prim.Native.Nat.{ℕ}
+use Rattle.refusals.specs.Outcome.{Outcome, then}
+use Rattle.tables.specs.Slots.{entriesOf, ofValid}
+use Rattle.conversions.specs.Conversions.{utcToGps}
 use borrow.Author.Needs.{needs}
-use Rattle.tables.proofs.Checked.{Checked, checked, bad, good}
-use Rattle.conversions.proofs.glonass_to_gps.Statement.{statement}
-use Rattle.conversions.proofs.glonass_to_gps.Tie as tie
+use Rattle.conversions.proofs.glonass_to_gps as call
 
-known : (c : tie.Then1) → Checked (c .before .before .before .before .before .args .t2)
-known c = checked _ (search needs) (search needs) (sym (c .before .is-valid .ensures) ∙ c .if1 .taken)
-
-is-valid-requires : tie.Need-is-valid-requires
-is-valid-requires c κs = search needs
-
-glonass-to-gps-requires : tie.Need-glonass-to-gps-requires
-glonass-to-gps-requires c κs =
-    let k = known (c .before .before .before .before .before) in
-    (k .in-thresholds, (k .in-offsets, k .is-valid))
-
-of-requires : tie.Need-of-requires
-of-requires c κs = search needs
-
-returns : tie.Need-returns
+returns : call.Tie.Need-returns
 returns c =
-    let t = c .before .before .before .before .before .before .before in
-    c .of .ensures ∙ c .before .glonass-to-gps .ensures
-    ∙ good (t .before .before .before .before .before .args .t2) _ (known t .passes)
+    let t = c .before .before .before .args .table in
+    c .of .ensures ∙ c .before .gps-from-utc .ensures
+    ∙ ap (λ (o : Outcome ℕ). ofValid t (then o (utcToGps (entriesOf t)))) (c .before .before .utc-from-glonass .ensures)
 
-returns-2 : tie.Need-returns-2
-returns-2 c = bad (c .before .before .before .before .before .args .t2) _ (sym (c .before .is-valid .ensures) ∙ c .if1 .left)
-
-pub glonass-to-gps-spec : {M : Type 1} → statement M
-glonass-to-gps-spec = tie.close (tie.spec is-valid-requires glonass-to-gps-requires of-requires returns returns-2)
+pub glonass-to-gps-spec : {M : Type 1} → call.Statement.statement M
+glonass-to-gps-spec =
+    call.Tie.close (call.Tie.spec (λ c κs. search needs) (λ c κs. search needs) (λ c κs. search needs) returns)

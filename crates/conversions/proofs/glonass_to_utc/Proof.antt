@@ -1,17 +1,10 @@
--- `glonass_to_utc` meets its contract: the plain answer, on its scale.
+-- `glonass_to_utc` is the step up by the epochs’ difference, on its scale.
 use mathlib.Core.Path.{_∙_}
 use borrow.Author.Needs.{needs}
-use Rattle.conversions.proofs.glonass_to_utc.Statement.{statement}
-use Rattle.conversions.proofs.glonass_to_utc.Tie as tie
+use Rattle.conversions.proofs.glonass_to_utc as call
 
-glonass-to-utc-requires : tie.Need-glonass-to-utc-requires
-glonass-to-utc-requires c κs = search needs
+returns : call.Tie.Need-returns
+returns c = c .of .ensures ∙ c .before .utc-from-glonass .ensures
 
-of-requires : tie.Need-of-requires
-of-requires c κs = search needs
-
-returns : tie.Need-returns
-returns c = c .of .ensures ∙ c .before .glonass-to-utc .ensures
-
-pub glonass-to-utc-spec : {M : Type 1} → statement M
-glonass-to-utc-spec = tie.close (tie.spec glonass-to-utc-requires of-requires returns)
+pub glonass-to-utc-spec : {M : Type 1} → call.Statement.statement M
+glonass-to-utc-spec = call.Tie.close (call.Tie.spec (λ c κs. search needs) (λ c κs. search needs) returns)

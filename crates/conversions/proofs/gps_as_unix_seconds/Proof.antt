@@ -1,29 +1,19 @@
--- `gps_as_unix_seconds` tests the table and, where it is valid, lends its arrays to the conversion of plain counts.
-use mathlib.Core.Path.{sym, _∙_}
+-- `gps_as_unix_seconds`: GPS to UTC, then the step to Unix seconds.
+use mathlib.Core.Path.{ap, _∙_}
+use Rattle.tables.specs.Slots.{entriesOf, validTable}
+use Rattle.refusals.specs.Outcome.{changed}
+use Rattle.tables.proofs.Checked.{eight-changed}
+use Rattle.conversions.specs.Conversions.{gpsToUtc, utcToUnix}
 use borrow.Author.Needs.{needs}
-use Rattle.tables.proofs.Checked.{Checked, checked, bad, good}
-use Rattle.conversions.proofs.gps_as_unix_seconds.Statement.{statement}
-use Rattle.conversions.proofs.gps_as_unix_seconds.Tie as tie
+use Rattle.conversions.proofs.gps_as_unix_seconds as call
 
-known : (c : tie.Then1) → Checked (c .before .before .before .before .before .args .t2)
-known c = checked _ (search needs) (search needs) (sym (c .before .is-valid .ensures) ∙ c .if1 .taken)
-
-is-valid-requires : tie.Need-is-valid-requires
-is-valid-requires c κs = search needs
-
-gps-to-unix-requires : tie.Need-gps-to-unix-requires
-gps-to-unix-requires c κs =
-    let k = known (c .before .before .before .before .before) in
-    (k .in-thresholds, (k .in-offsets, k .is-valid))
-
-returns : tie.Need-returns
+returns : call.Tie.Need-returns
 returns c =
-    let t = c .before .before .before .before .before .before in
-    c .gps-to-unix .ensures
-    ∙ good (t .before .before .before .before .before .args .t2) _ (known t .passes)
+    let a = c .before .before .args in
+    c .unix-from-utc .ensures
+    ∙ ap (changed utcToUnix) (c .before .utc-from-gps .ensures)
+    ∙ eight-changed utcToUnix (validTable (a .table)) (gpsToUtc (entriesOf (a .table)) (a .gps .0))
 
-returns-2 : tie.Need-returns-2
-returns-2 c = bad (c .before .before .before .before .before .args .t2) _ (sym (c .before .is-valid .ensures) ∙ c .if1 .left)
-
-pub gps-as-unix-seconds-spec : {M : Type 1} → statement M
-gps-as-unix-seconds-spec = tie.close (tie.spec is-valid-requires gps-to-unix-requires returns returns-2)
+pub gps-as-unix-seconds-spec : {M : Type 1} → call.Statement.statement M
+gps-as-unix-seconds-spec =
+    call.Tie.close (call.Tie.spec (λ c κs. search needs) (λ c κs. search needs) returns)

@@ -1,32 +1,21 @@
--- `gps_to_glonass` tests the table and, where it is valid, lends its arrays to the conversion of plain counts.
-use mathlib.Core.Path.{sym, _∙_}
+-- `gps_to_glonass`: GPS to UTC, then the step to GLONASS.
+use mathlib.Core.Path.{ap, _∙_}
+use Prim.Native.Nat.{ℕ}
+use Rattle.counts.specs.Exact.{down}
+use Rattle.tables.specs.Slots.{entriesOf, validTable}
+use Rattle.refusals.specs.Outcome.{Outcome, then}
+use Rattle.tables.proofs.Checked.{eight-first}
+use Rattle.conversions.specs.Conversions.{glonassEpoch, gpsToUtc}
 use borrow.Author.Needs.{needs}
-use Rattle.tables.proofs.Checked.{Checked, checked, bad, good}
-use Rattle.conversions.proofs.gps_to_glonass.Statement.{statement}
-use Rattle.conversions.proofs.gps_to_glonass.Tie as tie
+use Rattle.conversions.proofs.gps_to_glonass as call
 
-known : (c : tie.Then1) → Checked (c .before .before .before .before .before .args .t2)
-known c = checked _ (search needs) (search needs) (sym (c .before .is-valid .ensures) ∙ c .if1 .taken)
-
-is-valid-requires : tie.Need-is-valid-requires
-is-valid-requires c κs = search needs
-
-gps-to-glonass-requires : tie.Need-gps-to-glonass-requires
-gps-to-glonass-requires c κs =
-    let k = known (c .before .before .before .before .before) in
-    (k .in-thresholds, (k .in-offsets, k .is-valid))
-
-of-requires : tie.Need-of-requires
-of-requires c κs = search needs
-
-returns : tie.Need-returns
+returns : call.Tie.Need-returns
 returns c =
-    let t = c .before .before .before .before .before .before .before in
-    c .of .ensures ∙ c .before .gps-to-glonass .ensures
-    ∙ good (t .before .before .before .before .before .args .t2) _ (known t .passes)
+    let a = c .before .before .before .args in
+    c .of .ensures ∙ c .before .glonass-from-utc .ensures
+    ∙ ap (λ (o : Outcome ℕ). then o (down glonassEpoch)) (c .before .before .utc-from-gps .ensures)
+    ∙ eight-first (down glonassEpoch) (validTable (a .table)) (gpsToUtc (entriesOf (a .table)) (a .gps .0))
 
-returns-2 : tie.Need-returns-2
-returns-2 c = bad (c .before .before .before .before .before .args .t2) _ (sym (c .before .is-valid .ensures) ∙ c .if1 .left)
-
-pub gps-to-glonass-spec : {M : Type 1} → statement M
-gps-to-glonass-spec = tie.close (tie.spec is-valid-requires gps-to-glonass-requires of-requires returns returns-2)
+pub gps-to-glonass-spec : {M : Type 1} → call.Statement.statement M
+gps-to-glonass-spec =
+    call.Tie.close (call.Tie.spec (λ c κs. search needs) (λ c κs. search needs) (λ c κs. search needs) returns)

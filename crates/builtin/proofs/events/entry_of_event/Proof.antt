@@ -4,30 +4,21 @@ use Prim.Native.Nat.{ℕ}
 use lib.IntN.{ℤ}
 use mir.Facts.{toZ-ofZ}
 use borrow.Author.Needs.{needs}
+use Rattle.refusals.proofs.Steps.{goes-on, stops}
 use Rattle.refusals.specs.Outcome.{answered}
 use Rattle.counts.specs.Answers.{countIn}
 use Rattle.calendar.specs.Answers.{dateIn}
 use Rattle.tables.specs.Entries.{entry}
-use Rattle.conversions.proofs.OneThenAnother.{goes-on, stops}
 use Rattle.builtin.specs.Events.{eventThreshold}
-use Rattle.builtin.proofs.events.entry_of_event.Statement.{statement}
-use Rattle.builtin.proofs.events.entry_of_event.Tie as tie
+use Rattle.builtin.proofs.events.entry_of_event as call
 
-threshold-is : (c : tie.After-threshold)
+threshold-is : (c : call.Tie.After-threshold)
     → countIn (c .threshold .result) ≡ eventThreshold (dateIn (c .before .args .date)) (c .before .args .«tai-minus-utc»)
 threshold-is c =
-    c .threshold .ensures ∙ ap (eventThreshold (dateIn (c .before .args .date))) (toZ-ofZ (c .before .fits .«tai-minus-utc»))
+    c .threshold .ensures
+    ∙ ap (eventThreshold (dateIn (c .before .args .date))) (toZ-ofZ (c .before .fits .«tai-minus-utc»))
 
-threshold-requires : tie.Need-threshold-requires
-threshold-requires c κs = search needs
-
-enum-known-tai-nanos : tie.Need-enum-known-tai-nanos
-enum-known-tai-nanos c = search needs
-
-enum-known-why : tie.Need-enum-known-why
-enum-known-why c = search needs
-
-returns : tie.Need-returns
+returns : call.Tie.Need-returns
 returns c =
     let arm = c .before in
     let start = arm .before .before .before in
@@ -35,12 +26,12 @@ returns c =
     ∙ sym (goes-on (λ (t : ℕ). answered (entry t (start .args .«tai-minus-utc»)))
     (sym (threshold-is (arm .before .before)) ∙ ap countIn (arm .tai-nanos .given .1)))
 
-returns-2 : tie.Need-returns-2
+returns-2 : call.Tie.Need-returns-2
 returns-2 c =
     let arm = c .before in
     sym (stops (λ (t : ℕ). answered (entry t (arm .before .before .before .args .«tai-minus-utc»)))
     (sym (threshold-is (arm .before .before)) ∙ ap countIn (arm .why .given .1)))
 
-pub entry-of-event-spec : {M : Type 1} → statement M
+pub entry-of-event-spec : {M : Type 1} → call.Statement.statement M
 entry-of-event-spec =
-    tie.close (tie.spec threshold-requires enum-known-tai-nanos enum-known-why returns returns-2)
+    call.Tie.close (call.Tie.spec (λ c κs. search needs) (λ c. search needs) (λ c. search needs) returns returns-2)

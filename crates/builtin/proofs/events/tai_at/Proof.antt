@@ -8,26 +8,20 @@ use mir.Facts.{toZ-ofZ}
 use Rattle.counts.specs.Exact.{countOf}
 use Rattle.conversions.specs.Conversions.{E, inNanos}
 use Rattle.conversions.proofs.Shifts.{taken}
-use Rattle.builtin.proofs.events.tai_at.Statement.{statement}
-use Rattle.builtin.proofs.events.tai_at.Tie as tie
-
-utc-less-tai-requires : tie.Need-utc-less-tai-requires
-utc-less-tai-requires c κs = search needs
-
-earlier-requires : tie.Need-earlier-requires
-earlier-requires c κs = search needs
+use Rattle.builtin.proofs.events.tai_at as call
 
 -- what the machine takes
-shift : (c : tie.After-utc-less-tai) → toZ w64 (ofZ w64 (c .utc-less-tai .result)) ≡ pos E -ℤ inNanos (c .before .args .offset)
+shift : (c : call.Tie.After-utc-minus-tai)
+    → toZ w64 (ofZ w64 (c .utc-minus-tai .result)) ≡ pos E -ℤ inNanos (c .before .args .offset)
 shift c =
-    let fits : SFits w64 (c .utc-less-tai .result) = search needs in
-    toZ-ofZ fits ∙ c .utc-less-tai .ensures ∙ ap (λ (z : ℤ). pos E -ℤ inNanos z) (toZ-ofZ (c .before .fits .offset))
+    let fits : SFits w64 (c .utc-minus-tai .result) = search needs in
+    toZ-ofZ fits ∙ c .utc-minus-tai .ensures ∙ ap (λ (z : ℤ). pos E -ℤ inNanos z) (toZ-ofZ (c .before .fits .offset))
 
-returns : tie.Need-returns
+returns : call.Tie.Need-returns
 returns c =
     let a = c .before .before .args in
     c .earlier .ensures
     ∙ ap countOf (ap (λ (z : ℤ). pos (a .utc) -ℤ z) (shift (c .before)) ∙ taken (pos (a .utc)) (inNanos (a .offset)) (pos E))
 
-pub tai-at-spec : {M : Type 1} → statement M
-tai-at-spec = tie.close (tie.spec utc-less-tai-requires earlier-requires returns)
+pub tai-at-spec : {M : Type 1} → call.Statement.statement M
+tai-at-spec = call.Tie.close (call.Tie.spec (λ c κs. search needs) (λ c κs. search needs) returns)

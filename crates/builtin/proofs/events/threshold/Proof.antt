@@ -1,32 +1,19 @@
 -- `threshold` is the table's rule, because UTC − E + offset is.
-use mathlib.Core.Path.{_≡_, sym, ap, _∙_}
+use mathlib.Core.Path.{sym, ap, _∙_}
 use Prim.Native.Nat.{ℕ}
 use lib.IntN.{ℤ, pos, _+ℤ_, _-ℤ_}
 use mir.Facts.{toZ-ofZ}
 use borrow.Author.Needs.{needs}
+use Rattle.refusals.proofs.Steps.{goes-on, stops}
 use Rattle.counts.specs.Exact.{countOf}
 use Rattle.counts.specs.Answers.{countIn}
 use Rattle.calendar.specs.Answers.{dateIn}
 use Rattle.conversions.specs.Conversions.{E, inNanos}
-use Rattle.conversions.proofs.OneThenAnother.{goes-on, stops}
 use Rattle.builtin.specs.Builtin.{thresholdOf}
 use Rattle.builtin.proofs.EventEntries.{by-utc}
-use Rattle.builtin.proofs.events.threshold.Statement.{statement}
-use Rattle.builtin.proofs.events.threshold.Tie as tie
+use Rattle.builtin.proofs.events.threshold as call
 
-utc-at-midnight-requires : tie.Need-utc-at-midnight-requires
-utc-at-midnight-requires c κs = search needs
-
-enum-known-utc : tie.Need-enum-known-utc
-enum-known-utc c = search needs
-
-tai-at-requires : tie.Need-tai-at-requires
-tai-at-requires c κs = search needs
-
-enum-known-why : tie.Need-enum-known-why
-enum-known-why c = search needs
-
-returns : tie.Need-returns
+returns : call.Tie.Need-returns
 returns c =
     let arm = c .before .before in
     let a = arm .before .before .before .args in
@@ -37,20 +24,20 @@ returns c =
     ∙ ap countOf (sym (by-utc (dateIn (a .date)) (a .«tai-minus-utc») utc midnight-is))
     ∙ sym (goes-on (λ (u : ℕ). countOf (thresholdOf (dateIn (a .date)) (a .«tai-minus-utc»))) midnight-is)
 
-returns-2 : tie.Need-returns-2
+returns-2 : call.Tie.Need-returns-2
 returns-2 c =
     let arm = c .before in
     let a = arm .before .before .before .args in
     sym (stops (λ (u : ℕ). countOf (thresholdOf (dateIn (a .date)) (a .«tai-minus-utc»)))
     (sym (arm .before .before .utc-at-midnight .ensures) ∙ ap countIn (arm .why .given .1)))
 
-pub threshold-spec : {M : Type 1} → statement M
+pub threshold-spec : {M : Type 1} → call.Statement.statement M
 threshold-spec =
-    tie.close
-    (tie.spec
-    utc-at-midnight-requires
-    enum-known-utc
-    tai-at-requires
-    enum-known-why
+    call.Tie.close
+    (call.Tie.spec
+    (λ c κs. search needs)
+    (λ c. search needs)
+    (λ c κs. search needs)
+    (λ c. search needs)
     returns
     returns-2)

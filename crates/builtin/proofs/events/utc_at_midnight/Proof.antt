@@ -9,17 +9,13 @@ use Rattle.calendar.specs.Calendar.{on}
 use Rattle.civil.specs.Fields.{countAt}
 use Rattle.builtin.specs.Events.{midnight}
 use borrow.Author.Needs.{needs}
-use Rattle.builtin.proofs.events.utc_at_midnight.Statement.{statement}
-use Rattle.builtin.proofs.events.utc_at_midnight.Tie as tie
+use Rattle.builtin.proofs.events.utc_at_midnight as call
 
-to-utc-nanos-requires : tie.Need-to-utc-nanos-requires
-to-utc-nanos-requires c κs = search needs
-
-returns : tie.Need-returns
+returns : call.Tie.Need-returns
 returns c =
     let date = c .before .before .args .date in
     let fits : SFits w32 (date .year) = record { sfits = omega arith } in
     c .to-utc-nanos .ensures ∙ ap (λ (y : ℤ). countAt (midnight (on y (date .month) (date .day)))) (toZ-ofZ fits)
 
-pub utc-at-midnight-spec : {M : Type 1} → statement M
-utc-at-midnight-spec = tie.close (tie.spec to-utc-nanos-requires returns)
+pub utc-at-midnight-spec : {M : Type 1} → call.Statement.statement M
+utc-at-midnight-spec = call.Tie.close (call.Tie.spec (λ c κs. search needs) returns)

@@ -1,0 +1,32 @@
+-- How many thresholds a reading has passed: only the contracts of private functions speak of it.
+use mathlib.Core.Bool.{cond}
+use mathlib.Core.List.{List, [], _∷_}
+use Prim.Native.Nat.{ℕ, _+_}
+use lib.Dec.{leb}
+use lib.IntN.{pos}
+use Rattle.tables.specs.declared.Lookup.{Lookup}
+
+unfoldable pub countReached : ℕ → List ℕ → ℕ
+countReached t [] = 0
+countReached t (x ∷ xs) = cond (leb x t) 1 0 + countReached t xs
+
+-- what is in force from an event on; 0 stands for the first entry
+abbrev pub toldAt : ℕ → Lookup
+toldAt event = record { offset = pos (19 + event) }
+
+unfoldable pub eventsTo1993 : List ℕ
+eventsTo1993 =
+    46_828_820_000_000_000 ∷ 78_364_821_000_000_000 ∷ 109_900_822_000_000_000 ∷ 173_059_223_000_000_000 ∷ 252_028_824_000_000_000 ∷ 315_187_225_000_000_000 ∷ 346_723_226_000_000_000 ∷ 393_984_027_000_000_000 ∷ 425_520_028_000_000_000 ∷ []
+
+unfoldable pub eventsFrom1994 : List ℕ
+eventsFrom1994 =
+    457_056_029_000_000_000 ∷ 504_489_630_000_000_000 ∷ 551_750_431_000_000_000 ∷ 599_184_032_000_000_000 ∷ 820_108_833_000_000_000 ∷ 914_803_234_000_000_000 ∷ 1_025_136_035_000_000_000 ∷ 1_119_744_036_000_000_000 ∷ 1_167_264_037_000_000_000 ∷ []
+
+-- the UTC counts a second past each event
+unfoldable pub pastTo1993 : List ℕ
+pastTo1993 =
+    299_721_601_000_000_000 ∷ 331_257_601_000_000_000 ∷ 362_793_601_000_000_000 ∷ 425_952_001_000_000_000 ∷ 504_921_601_000_000_000 ∷ 568_080_001_000_000_000 ∷ 599_616_001_000_000_000 ∷ 646_876_801_000_000_000 ∷ 678_412_801_000_000_000 ∷ []
+
+unfoldable pub pastFrom1994 : List ℕ
+pastFrom1994 =
+    709_948_801_000_000_000 ∷ 757_382_401_000_000_000 ∷ 804_643_201_000_000_000 ∷ 852_076_801_000_000_000 ∷ 1_073_001_601_000_000_000 ∷ 1_167_696_001_000_000_000 ∷ 1_278_028_801_000_000_000 ∷ 1_372_636_801_000_000_000 ∷ 1_420_156_801_000_000_000 ∷ []

@@ -1,0 +1,150 @@
+// The offset in force by the built-in table, and the conversions by it, on plain counts. The offset is 19 and one more
+// for each event at or before the reading: eighteen tests, which have no branch and read no table.
+ghost use mathlib.Core.Path.{_≡_};
+ghost use mathlib.Core.Bool.{cond};
+ghost use mathlib.Core.List.{[], _∷_};
+ghost use Prim.Native.Nat.{_≤_};
+ghost use lib.Dec.{leb};
+ghost use Rattle.refusals.specs.Outcome.{then};
+ghost use Rattle.counts.specs.Answers.{countIn};
+ghost use Rattle.tables.specs.Entries.{lookup};
+ghost use Rattle.conversions.specs.Conversions.{gpsToUtc};
+ghost use Rattle.builtin.specs.Builtin.{builtin};
+ghost use Rattle.builtin.specs.Reached.{countReached, eventsTo1993, eventsFrom1994, toldAt};
+use conversions::inner;
+use counts::CountAnswer;
+use tables::Lookup;
+use tables::LookupAnswer;
+
+// The threshold of each event: (its Unix second − 315,964,800 + the offset that begins) × 10⁹.
+pub const JULY_1981: u64 = 46_828_820_000_000_000;
+
+pub const JULY_1982: u64 = 78_364_821_000_000_000;
+
+pub const JULY_1983: u64 = 109_900_822_000_000_000;
+
+pub const JULY_1985: u64 = 173_059_223_000_000_000;
+
+pub const JANUARY_1988: u64 = 252_028_824_000_000_000;
+
+pub const JANUARY_1990: u64 = 315_187_225_000_000_000;
+
+pub const JANUARY_1991: u64 = 346_723_226_000_000_000;
+
+pub const JULY_1992: u64 = 393_984_027_000_000_000;
+
+pub const JULY_1993: u64 = 425_520_028_000_000_000;
+
+pub const JULY_1994: u64 = 457_056_029_000_000_000;
+
+pub const JANUARY_1996: u64 = 504_489_630_000_000_000;
+
+pub const JULY_1997: u64 = 551_750_431_000_000_000;
+
+pub const JANUARY_1999: u64 = 599_184_032_000_000_000;
+
+pub const JANUARY_2006: u64 = 820_108_833_000_000_000;
+
+pub const JANUARY_2009: u64 = 914_803_234_000_000_000;
+
+pub const JULY_2012: u64 = 1_025_136_035_000_000_000;
+
+pub const JULY_2015: u64 = 1_119_744_036_000_000_000;
+
+pub const JANUARY_2017: u64 = 1_167_264_037_000_000_000;
+
+fn reached(threshold: u64, tai: u64) -> u64
+    ensures is { λ r. ⌜ r ≡ cond (leb threshold tai) 1 0 ⌝ }
+    ensures few { λ r. ⌜ r ≤ 1 ⌝ }
+{
+    if threshold <= tai { 1 } else { 0 }
+}
+
+// How many of nine thresholds are at or before a reading.
+pub fn reached_of_nine(
+    t: u64,
+    a: u64,
+    b: u64,
+    c: u64,
+    d: u64,
+    e: u64,
+    f: u64,
+    g: u64,
+    h: u64,
+    i: u64,
+) -> u64
+    ensures is { λ r. ⌜ r ≡ countReached t (a ∷ b ∷ c ∷ d ∷ e ∷ f ∷ g ∷ h ∷ i ∷ []) ⌝ }
+    ensures few { λ r. ⌜ r ≤ 9 ⌝ }
+{
+    reached(a, t)
+        + reached(b, t)
+        + reached(c, t)
+        + reached(d, t)
+        + reached(e, t)
+        + reached(f, t)
+        + reached(g, t)
+        + reached(h, t)
+        + reached(i, t)
+}
+
+// How many of the first nine events are at or before a reading.
+fn events_to_1993(tai: u64) -> u64
+    ensures is { λ r. ⌜ r ≡ countReached tai eventsTo1993 ⌝ }
+    ensures few { λ r. ⌜ r ≤ 9 ⌝ }
+{
+    reached_of_nine(
+        tai,
+        JULY_1981,
+        JULY_1982,
+        JULY_1983,
+        JULY_1985,
+        JANUARY_1988,
+        JANUARY_1990,
+        JANUARY_1991,
+        JULY_1992,
+        JULY_1993,
+    )
+}
+
+// How many of the last nine.
+fn events_from_1994(tai: u64) -> u64
+    ensures is { λ r. ⌜ r ≡ countReached tai eventsFrom1994 ⌝ }
+    ensures few { λ r. ⌜ r ≤ 9 ⌝ }
+{
+    reached_of_nine(
+        tai,
+        JULY_1994,
+        JANUARY_1996,
+        JULY_1997,
+        JANUARY_1999,
+        JANUARY_2006,
+        JANUARY_2009,
+        JULY_2012,
+        JULY_2015,
+        JANUARY_2017,
+    )
+}
+
+// What the entry tells that is in force from an event on, the first event being 1; 0 stands for the entry at reading 0.
+pub fn entry_told(event: u64) -> Lookup
+    requires { ⌜ event ≤ 18 ⌝ }
+    ensures { λ r. ⌜ r ≡ toldAt event ⌝ }
+{
+    Lookup {
+        offset: (19 + event) as i32,
+    }
+}
+
+// What is in force at a TAI reading.
+pub fn look_up(tai: u64) -> Lookup
+    ensures { λ r. ⌜ r ≡ lookup builtin tai ⌝ }
+{
+    entry_told(events_to_1993(tai) + events_from_1994(tai))
+}
+
+pub fn utc_from_gps(gps: CountAnswer) -> CountAnswer
+    ensures { λ r. ⌜ countIn r ≡ then (countIn gps) (gpsToUtc builtin) ⌝ }
+{
+    let tai = inner::tai_of(gps);
+    inner::utc_from_lookup(LookupAnswer::Told(look_up(inner::reading_of(tai))), tai)
+}

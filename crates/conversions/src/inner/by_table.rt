@@ -1,0 +1,40 @@
+// GPS to UTC and UTC to GPS by a table that is held by value. An invalid table is refused with 8 before anything else.
+ghost use mathlib.Core.Path.{_≡_};
+ghost use Rattle.refusals.specs.Outcome.{then};
+ghost use Rattle.counts.specs.Answers.{countIn};
+ghost use Rattle.tables.specs.Slots.{entriesOf, ofValid};
+ghost use Rattle.conversions.specs.Conversions.{gpsToUtc, utcToGps};
+use crate::inner::first_reading_of;
+use crate::inner::gps_from_lookup;
+use crate::inner::last_reading_of;
+use crate::inner::reading_of;
+use crate::inner::tai_of;
+use crate::inner::utc_from_lookup;
+use counts::CountAnswer;
+use tables::LeapTable;
+use tables::LookupAnswer;
+use tables::inner::checked_look_up;
+use tables::inner::look_up;
+
+pub fn utc_from_gps(gps: CountAnswer, table: LeapTable) -> CountAnswer
+    ensures { λ r. ⌜ countIn r ≡ ofValid table (then (countIn gps) (gpsToUtc (entriesOf table))) ⌝ }
+{
+    let n = table.len;
+    let tai = tai_of(gps);
+    let found = checked_look_up(&table.thresholds, &table.offsets, n, reading_of(tai));
+    utc_from_lookup(found, tai)
+}
+
+pub fn gps_from_utc(utc: CountAnswer, table: LeapTable) -> CountAnswer
+    ensures { λ r. ⌜ countIn r ≡ ofValid table (then (countIn utc) (utcToGps (entriesOf table))) ⌝ }
+{
+    let n = table.len;
+    let a = first_reading_of(utc);
+    match checked_look_up(&table.thresholds, &table.offsets, n, a) {
+        LookupAnswer::Told(first) => {
+            let b = last_reading_of(utc, first, a);
+            gps_from_lookup(look_up(&table.thresholds, &table.offsets, n, b), utc)
+        }
+        LookupAnswer::Refused(why) => CountAnswer::Refused(why),
+    }
+}
