@@ -1,4 +1,5 @@
 -- Demand 1, call by call: a refusal writes zeros, and a table that is refused an entry does not change.
+pub mod EveryScale
 pub mod Scales
 pub mod CivilTimes
 pub mod Conversions

@@ -1,29 +1,36 @@
--- Demand 3: by their contracts the calls of a pair answer what `gpsToUtc` and `utcToGps` say, and WayBack.antt proves it of these.
--- specs/OfCalls.antt names the pairs, specs/TwoInstants.antt says what is proved.
+-- Demand 3: by their contracts the calls of a pair answer what `gpsToUtc` and `utcToGps` say, and WayBack.antt proves
+-- it of these. specs/OfCalls.antt names the pairs, specs/TwoInstants.antt says what is proved.
 use mathlib.Core.Path.{_≡_, refl, sym, ap, _∙_}
 use mathlib.Core.Bool.{true}
 use mathlib.Core.List.{List}
 use Prim.Native.Nat.{ℕ}
+use native.Mathlib.Omega.{arith}
 use borrow.Author.Tests.{le-leb}
 use denote.Ref.{now}
-use Rattle.refusals.specs.Outcome.{Outcome, Gives}
+use lib.ListN.{length}
+use Rattle.refusals.specs.Outcome.{Outcome, Gives, then, unless}
+use Rattle.refusals.proofs.Given.{Numbered, told-is}
+use Rattle.counts.specs.Answers.{countIn}
+use Rattle.scales.specs.Scales.{taiMinusGps}
 use Rattle.tables.specs.Entries.{Entry, regular}
 use Rattle.tables.specs.Slots.{entriesOf, validTable, ofValid}
 use Rattle.tables.specs.declared.LeapTable.{LeapTable}
 use Rattle.tables.proofs.Checked.{good}
-use Rattle.images.specs.Image.{tableOfImage}
+use Rattle.tables.proofs.Tested.{valid-tested, regular-tested}
+use Rattle.images.specs.Image.{imageBytes, tableIn, byImage}
+use Rattle.images.proofs.Whole.{of-size}
 use Rattle.conversions.specs.Conversions.{gpsToUtc, utcToGps}
 use Rattle.builtin.specs.Builtin.{builtin}
 use Rattle.builtin.proofs.Regular.{builtin-regular}
 use Rattle.demands.specs.TwoInstants.{TwoInstants}
-use Rattle.demands.specs.OfCalls.{told, Allows, TwoInstantsOf, Regular, Demand3}
-use Rattle.demands.proofs.LeapSeconds.{tests}
-use Rattle.demands.proofs.OnCounts.{kept}
-use Rattle.demands.proofs.Told.{told-is, gps-to-utc-numbered, utc-to-gps-numbered, valid-numbered}
-use Rattle.demands.proofs.WayBack.{by-a-regular-list}
+use Rattle.demands.specs.OfCalls.{Allows, TwoInstantsOf, Regular, Demand3}
+use Rattle.demands.proofs.AnswerOrRefusal.{to-utc-numbered, to-gps-numbered, by-image-numbered}
+use Rattle.demands.proofs.LeapSeconds.{leaps, counted}
+use Rattle.demands.proofs.SameAnswers.{kept}
+use Rattle.demands.proofs.WayBack.{two-instants}
 
-pub by-regular-lists : (es : List Entry) → regular es ≡ true → TwoInstants es (gpsToUtc es) (utcToGps es)
-by-regular-lists = by-a-regular-list
+pub by-regular-lists : (es : List Entry) → regular es ≡ true → TwoInstants es taiMinusGps 0 (gpsToUtc es) (utcToGps es)
+by-regular-lists es r = two-instants es (leaps es) (counted es r)
 
 -- two calls that answer as the definitions do
 of-pair : (es : List Entry) → regular es ≡ true → {There Back : ℕ → Outcome ℕ → Type 0}
@@ -31,7 +38,7 @@ of-pair : (es : List Entry) → regular es ≡ true → {There Back : ℕ → Ou
     → ((u : ℕ) (o : Outcome ℕ) → Back u o → o ≡ utcToGps es u)
     → TwoInstantsOf es There Back
 of-pair es r to from there back a b =
-    kept es (λ g l. to g (there g) (a g l)) (λ u l. from u (back u) (b u l)) (by-regular-lists es r)
+    kept es taiMinusGps 0 (λ g l. to g (there g) (a g l)) (λ u l. from u (back u) (b u l)) (by-regular-lists es r)
 
 module _ {Lifetimes : Type 0} {Arguments Answer End : Lifetimes → Type 0}
     {Contract : (κ : Lifetimes) → Arguments κ → Answer κ → End κ → Type 0}
@@ -53,44 +60,47 @@ of-table t (short, r) to from =
     (λ u o a. from u o a ∙ sym (good t _ is-valid))
   where
     is-valid : validTable t ≡ true
-    is-valid = rw (le-leb (t .len) 64 short) (tests (entriesOf t) r .is-valid)
+    is-valid =
+        rw (le-leb (t .len) 64 (omega (arith, short)))
+        (valid-tested (entriesOf t) .1 (regular-tested (entriesOf t) .0 r .valid))
 
--- what is answered by the table that s holds
-module _ {Source : Type 0} (table : Source → LeapTable) (convert : List Entry → ℕ → Outcome ℕ) where
-  abbrev by : Source → ℕ → Outcome ℕ
-  by s n = ofValid (table s) (convert (entriesOf (table s)) n)
+-- what is answered by the table in an image, to the one who asks of b and n
+module _ (convert : List Entry → ℕ → Outcome ℕ) {b : List ℕ} (size : length b ≡ imageBytes) {n : ℕ} where
+  of-image : {b′ : List ℕ} {m : ℕ} → (m ≡ n) × (b′ ≡ b)
+      → byImage b′ (λ es. convert es m) ≡ ofValid (tableIn b) (convert (entriesOf (tableIn b)) n)
+  of-image (p, q) = (λ i. byImage (q i) (λ es. convert es (p i))) ∙ sym (of-size b _ _ size)
 
-  as-asked : {n m : ℕ} {s s′ : Source} → (m ≡ n) × (s′ ≡ s) → by s′ m ≡ by s n
-  as-asked (p, q) = λ i. by (q i) (p i)
-
--- what a host is told by an image
-module _ (b : List ℕ) (n : ℕ) {k v : ℕ} where
-  told-there : Gives 0 (by tableOfImage gpsToUtc b n) k v → told k v ≡ by tableOfImage gpsToUtc b n
-  told-there p = told-is _ (valid-numbered (tableOfImage b) _ (gps-to-utc-numbered (entriesOf (tableOfImage b)) n)) p
-
-  told-back : Gives 0 (by tableOfImage utcToGps b n) k v → told k v ≡ by tableOfImage utcToGps b n
-  told-back p = told-is _ (valid-numbered (tableOfImage b) _ (utc-to-gps-numbered (entriesOf (tableOfImage b)) n)) p
+  -- a host reads it off the number and the value
+  as-told : ((es : List Entry) (m : ℕ) → Numbered (convert es m)) → {b′ : List ℕ} {m k v : ℕ} → (m ≡ n) × (b′ ≡ b)
+      → Gives 0 (byImage b′ (λ es. convert es m)) k v
+      → unless k v ≡ ofValid (tableIn b) (convert (entriesOf (tableIn b)) n)
+  as-told numbered {b′} {m} asked p =
+      told-is 0 _ (by-image-numbered b′ (λ es. convert es m) (λ es. numbered es m)) p ∙ of-image asked
 
 pub demand-3 : Demand3
 demand-3 = record {
   by-value = λ t r.
       of-table t r
-      (λ g. allowed _ (λ κ a r e q p. p ∙ as-asked (λ t. t) gpsToUtc q))
-      (λ u. allowed _ (λ κ a r e q p. p ∙ as-asked (λ t. t) utcToGps q));
-  in-place = λ b r.
-      of-table (tableOfImage b) r
-      (λ g. allowed _ (λ κ a r e q p. p ∙ as-asked tableOfImage gpsToUtc q))
-      (λ u. allowed _ (λ κ a r e q p. p ∙ as-asked tableOfImage utcToGps q));
+      (λ g. allowed _ (λ κ a r e q p. p ∙ (λ i. ofValid (q .1 i) (gpsToUtc (entriesOf (q .1 i)) (q .0 i)))))
+      (λ u. allowed _ (λ κ a r e q p. p ∙ (λ i. ofValid (q .1 i) (utcToGps (entriesOf (q .1 i)) (q .0 i)))));
+  in-place = λ b size r.
+      of-table (tableIn b) r
+      (λ g. allowed _ (λ κ a r e q p.
+      p ∙ (λ i. byImage (now (a .1 .0)) (λ es. then (countIn (q .0 i)) (gpsToUtc es)))
+      ∙ of-image gpsToUtc size {n = g} (refl, q .1)))
+      (λ u. allowed _ (λ κ a r e q p.
+      p ∙ (λ i. byImage (now (a .1 .0)) (λ es. then (countIn (q .0 i)) (utcToGps es)))
+      ∙ of-image utcToGps size {n = u} (refl, q .1)));
   built-in =
       of-pair builtin builtin-regular
       (λ g. allowed _ (λ κ a r e q p. p ∙ ap (gpsToUtc builtin) q))
       (λ u. allowed _ (λ κ a r e q p. p ∙ ap (utcToGps builtin) q));
-  exported = λ b r.
-      of-table (tableOfImage b) r
-      (λ g. allowed _ (λ κ a k e q p. told-there (now (a .1 .0)) (a .0) p ∙ as-asked tableOfImage gpsToUtc q))
-      (λ u. allowed _ (λ κ a k e q p. told-back (now (a .1 .0)) (a .0) p ∙ as-asked tableOfImage utcToGps q));
+  exported = λ b size r.
+      of-table (tableIn b) r
+      (λ g. allowed _ (λ κ a k e q p. as-told gpsToUtc size to-utc-numbered q p))
+      (λ u. allowed _ (λ κ a k e q p. as-told utcToGps size to-gps-numbered q p));
   exported-built-in =
       of-pair builtin builtin-regular
-      (λ g. allowed _ (λ κ a k e q p. told-is _ (gps-to-utc-numbered builtin (a .0)) p ∙ ap (gpsToUtc builtin) q))
-      (λ u. allowed _ (λ κ a k e q p. told-is _ (utc-to-gps-numbered builtin (a .0)) p ∙ ap (utcToGps builtin) q));
+      (λ g. allowed _ (λ κ a k e q p. told-is 0 _ (to-utc-numbered builtin (a .0)) p ∙ ap (gpsToUtc builtin) q))
+      (λ u. allowed _ (λ κ a k e q p. told-is 0 _ (to-gps-numbered builtin (a .0)) p ∙ ap (utcToGps builtin) q));
 }

@@ -8,7 +8,7 @@ use Rattle.calendar.proofs.RealDates.{real}
 use Rattle.calendar.proofs.CalendarTheorems.{date-of-day}
 use Rattle.civil.specs.Fields.{fields}
 use Rattle.civil.specs.declared.CivilDateTime.{CivilDateTime}
-use Rattle.tables.specs.Entries.{neighbours, lastUpTo, offsetAt, lastOr, joinRefusal}
+use Rattle.tables.specs.Entries.{neighbours, lastUpTo, lookup, lastOr, joinRefusal}
 use Rattle.tables.specs.Slots.{paired}
 use Rattle.builtin.specs.Builtin.{builtin, events, thresholdOf, entriesFrom}
 use Rattle.demands.specs.Examples.{Every, _also_, none-left, examples}
@@ -22,7 +22,7 @@ abbrev pub at : ℕ → ℕ → ℕ → ℕ → Date → CivilDateTime
 at h m s n d = fields (d .year) (d .month) (d .day) h m s n
 
 pub every-example : (week : ℕ) → Every (examples week)
-unfolding builtin events thresholdOf entriesFrom formula era yoe doy doe neighbours lastUpTo offsetAt lastOr joinRefusal paired
+unfolding builtin events thresholdOf entriesFrom formula era yoe doy doe neighbours lastUpTo lookup lastOr joinRefusal paired
 every-example week =
     refl also refl also refl also refl also refl also refl also refl also refl also refl also refl also
     refl also refl also refl also refl also refl also refl also refl also ap (at 23 34 33 709_551_615) last-day also

@@ -2,7 +2,7 @@
 -- thresholds lie too close.
 use mathlib.Core.Path.{_≡_, refl, ap}
 use mathlib.Core.List.{List, [], _∷_}
-use Prim.Native.Nat.{ℕ, _*_}
+use Prim.Native.Nat.{_*_}
 use lib.IntN.{pos}
 use Rattle.refusals.specs.Outcome.{answered, refused}
 use Rattle.counts.specs.Units.{second}
@@ -11,7 +11,7 @@ use Rattle.calendar.specs.Formula.{formula, era, yoe, doy, doe}
 use Rattle.calendar.proofs.RealDates.{real}
 use Rattle.calendar.proofs.CalendarTheorems.{date-of-day}
 use Rattle.civil.specs.Fields.{fields, fieldsOf}
-use Rattle.tables.specs.Entries.{Entry, entry, lastUpTo, offsetAt}
+use Rattle.tables.specs.Entries.{Entry, entry, lastUpTo, lookup}
 use Rattle.conversions.specs.Conversions.{gpsToUtc, utcToGps}
 use Rattle.builtin.specs.Builtin.{builtin, events, thresholdOf, entriesFrom}
 use Rattle.demands.specs.Examples.{Example, _is_, Every, _also_, none-left}
@@ -53,10 +53,10 @@ unfolding formula era yoe doy doe daysIn
 first-of-2017 = date-of-day (on (pos 2017) 1 1) (real (on (pos 2017) 1 1) tt)
 
 pub end-of-2016 : Every endOf2016
-unfolding builtin events thresholdOf entriesFrom formula era yoe doy doe lastUpTo offsetAt
+unfolding builtin events thresholdOf entriesFrom formula era yoe doy doe lastUpTo lookup
 end-of-2016 =
     refl also refl also refl also refl also refl also refl also refl also ap (at 0 0 0 0) first-of-2017 also none-left
 
 pub too-close : Every tooClose
-unfolding lastUpTo offsetAt
+unfolding lastUpTo lookup
 too-close = refl also refl also refl also refl also refl also none-left

@@ -1,10 +1,9 @@
 mod LeapSeconds
 mod OnNaturals
 mod WayBack
-mod OnCounts
-mod Outcomes
-mod Told
-mod Zeros
+mod SameAnswers
+mod AnswerOrRefusal
+pub mod FixedDifference
 pub mod Demand1
 pub mod Demand3
 pub mod EveryExample

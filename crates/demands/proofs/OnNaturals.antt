@@ -1,21 +1,31 @@
--- The two conversions over a regular list, on naturals: exact integers are left behind here.
+-- The two conversions over a regular list, on naturals: no exact integers are left from here on.
 use mathlib.Core.Path.{_≡_, refl, sym, ap, _∙_}
 use mathlib.Core.List.{List}
 use Prim.Native.Nat.{ℕ, _+_, _*_, _-_, _^_, _≤_, _<_}
 use native.Mathlib.Omega.{arith}
 use native.Mathlib.Decide.{decLt}
-use borrow.Author.Tests.{lt-ltb}
-use lib.IntN.{ℤ, pos, subℕ, _+ℤ_, _-ℤ_}
-use Rattle.refusals.specs.Outcome.{Outcome, answered, refused}
+use lib.IntN.{pos, subℕ, _+ℤ_, _-ℤ_}
+use Rattle.refusals.specs.Outcome.{Outcome, answered, refused, then}
+use Rattle.refusals.proofs.Given.{no-refusal}
+use Rattle.refusals.proofs.Steps.{goes-on, stops, then-answered}
 use Rattle.counts.specs.Exact.{countOf}
 use Rattle.counts.specs.Units.{second}
 use Rattle.counts.proofs.Difference.{not-below, below, of-naturals, plus}
 use Rattle.counts.proofs.Fitting.{is-count, no-count}
 use Rattle.scales.specs.Scales.{taiMinusGps}
 use Rattle.tables.specs.Entries.{Entry, offsetAt, day}
-use Rattle.conversions.specs.Conversions.{E, inNanos, countOr, utcBy, gpsBy, then, firstReading, secondReading, gpsToUtc, utcToGps}
-use Rattle.conversions.proofs.SinceEpoch.{since-E, since}
+use Rattle.conversions.specs.Conversions.{E, countOr, utcAtOffset, gpsAtOffset, firstReading, secondReading, gpsToUtc, utcToGps}
+use Rattle.conversions.proofs.SinceEpoch.{since-E, since, before}
 use Rattle.demands.proofs.LeapSeconds.{LeapSeconds}
+
+-- a step from k answers only if k is a count
+pub went-on : (k : ℕ) (next : ℕ → Outcome ℕ) {u : ℕ} → then (countOf (pos k)) next ≡ answered u
+    → (k < 2 ^ 64) × (next k ≡ answered u)
+went-on k next {u} e = go (decLt k (2 ^ 64))
+  where
+    go : Dec (k < 2 ^ 64) → (k < 2 ^ 64) × (next k ≡ answered u)
+    go (yes h) = (h, sym (goes-on next (is-count k h)) ∙ e)
+    go (no h) = absurd (no-refusal _ e (stops next (no-count k (omega (arith, h)))))
 
 abbrev pub tai : ℕ → ℕ
 tai g = g + taiMinusGps
@@ -24,14 +34,13 @@ less-19 : (n : ℕ) → pos (19 + n) -ℤ pos 19 ≡ pos n
 less-19 n = of-naturals (19 + n) 19 ∙ not-below (19 + n) 19 (omega arith) ∙ ap pos (omega arith)
 
 -- the two steps by an offset of 19 and n
-utc-by : (g n : ℕ) → n ≤ 63 → utcBy (pos (19 + n)) g ≡ countOf (pos (g + E - n * second))
-utc-by g n l =
-    ap (λ (z : ℤ). countOf (pos g -ℤ inNanos z +ℤ pos E)) (less-19 n)
-    ∙ ap (λ (z : ℤ). countOf (z +ℤ pos E)) (of-naturals g (n * second))
-    ∙ ap countOf (plus g (n * second) E ∙ not-below (g + E) (n * second) (omega arith))
+utc-at-offset : (g n : ℕ) → n ≤ 63 → utcAtOffset (pos (19 + n)) g ≡ countOf (pos (g + E - n * second))
+utc-at-offset g n l =
+    rw (less-19 n, of-naturals g (n * second))
+    (ap countOf (plus g (n * second) E ∙ not-below (g + E) (n * second) (omega arith)))
 
-gps-by : (u n : ℕ) → gpsBy (pos (19 + n)) u ≡ countOf (subℕ (u + n * second) E)
-gps-by u n = ap (λ (z : ℤ). countOf (pos u -ℤ pos E +ℤ inNanos z)) (less-19 n) ∙ ap countOf (since-E u (n * second))
+gps-at-offset : (u n : ℕ) → gpsAtOffset (pos (19 + n)) u ≡ countOf (subℕ (u + n * second) E)
+gps-at-offset u n = rw (less-19 n) (ap countOf (since-E u (n * second)))
 
 module _ (es : List Entry) (k : ℕ → ℕ) (f : LeapSeconds es k) where
   -- GPS to UTC: the UTC count is the GPS count and E, less the leap seconds at the TAI reading
@@ -43,54 +52,41 @@ module _ (es : List Entry) (k : ℕ → ℕ) (f : LeapSeconds es k) where
   abbrev utc : ℕ → ℕ
   utc g = g + E - k (tai g) * second
 
-  gives-utc : (g : ℕ) → tai g < 2 ^ 64 → gpsToUtc es g ≡ countOf (pos (utc g))
-  gives-utc g l =
-      ap (λ (o : Outcome ℕ). then o (λ t. utcBy (offsetAt es t) g)) (is-count (tai g) l)
-      ∙ ap (λ (n : ℤ). utcBy n g) (f .in-force (tai g))
-      ∙ utc-by g (k (tai g)) (f .few (tai g))
+  at-reading : (g : ℕ) → utcAtOffset (offsetAt es (tai g)) g ≡ countOf (pos (utc g))
+  at-reading g = rw (f .in-force (tai g)) (utc-at-offset g (k (tai g)) (f .few (tai g)))
 
   pub to-utc : (g u : ℕ) → Reads g u → gpsToUtc es g ≡ answered u
   to-utc g u r =
       let is : utc g ≡ u = omega (arith, r .exact) in
-      gives-utc g (r .tai-fits) ∙ ap (λ (n : ℕ). countOf (pos n)) is ∙ is-count u (r .utc-fits)
+      goes-on (λ t. utcAtOffset (offsetAt es t) g) (is-count (tai g) (r .tai-fits))
+      ∙ at-reading g ∙ ap (λ (n : ℕ). countOf (pos n)) is ∙ is-count u (r .utc-fits)
 
   pub from-gps : (g u : ℕ) → gpsToUtc es g ≡ answered u → Reads g u
-  from-gps g u e = go (decLt (tai g) (2 ^ 64)) (decLt (utc g) (2 ^ 64))
-    where
-      never : refused 1 ≡ answered u → Reads g u
-      never q = let z : _≡_ {A = ℕ} 0 1 = cc in absurd (omega arith)
-
-      go : Dec (tai g < 2 ^ 64) → Dec (utc g < 2 ^ 64) → Reads g u
-      go (no h) d = never (ap (λ (o : Outcome ℕ). then o (λ t. utcBy (offsetAt es t) g)) (sym (no-count (tai g) (omega (arith, h)))) ∙ e)
-      go (yes h) (no h′) = never (sym (gives-utc g h ∙ no-count (utc g) (omega (arith, h′))) ∙ e)
-      go (yes h) (yes h′) =
-          let p : answered (utc g) ≡ answered u = sym (gives-utc g h ∙ is-count (utc g) h′) ∙ e in
-          let is : utc g ≡ u = cc in
-          record { tai-fits = h; utc-fits = omega arith; exact = omega (arith, f .few (tai g)) }
+  from-gps g u e =
+      let (tai-fits, at-tai) = went-on (tai g) (λ t. utcAtOffset (offsetAt es t) g) e in
+      let (utc-fits, same) = went-on (utc g) answered (then-answered _ ∙ sym (at-reading g) ∙ at-tai) in
+      let is : utc g ≡ u = cc in
+      record { tai-fits = tai-fits; utc-fits = omega arith; exact = omega (arith, f .few (tai g)) }
 
   -- UTC to GPS, by its two readings
-  by-readings : (u a b : ℕ) → firstReading u ≡ a → secondReading u (pos (19 + k a)) a ≡ b → utcToGps es u ≡ countOf (subℕ (u + k b * second) E)
-  by-readings u a b ea eb =
-      ap (λ (x : ℕ). gpsBy (offsetAt es (secondReading u (offsetAt es x) x)) u) ea
-      ∙ ap (λ (n : ℤ). gpsBy (offsetAt es (secondReading u n a)) u) (f .in-force a)
-      ∙ ap (λ (x : ℕ). gpsBy (offsetAt es x) u) eb
-      ∙ ap (λ (n : ℤ). gpsBy n u) (f .in-force b)
-      ∙ gps-by u (k b)
+  by-readings : (u a b : ℕ) → firstReading u ≡ a → secondReading u (pos (19 + k a)) a ≡ b
+      → utcToGps es u ≡ countOf (subℕ (u + k b * second) E)
+  by-readings u a b ea eb = rw (ea, f .in-force a, eb, f .in-force b) (gps-at-offset u (k b))
 
   -- before E both readings are on the first day
-  first-day : (d x : ℕ) → d < day → x < E + day → countOr d (subℕ x E) < day
-  first-day d x l m = go (decLt x E)
+  first-day : (d u j : ℕ) → d < day → u + j < E + day → countOr d (pos u -ℤ pos E +ℤ pos j) < day
+  first-day d u j l m = go (decLt (u + j) E)
     where
-      go : Dec (x < E) → countOr d (subℕ x E) < day
-      go (yes h) = rw (below x E h) l
-      go (no h) = rw (not-below x E (omega (arith, h)), lt-ltb (x - E) (2 ^ 64) (omega arith)) (omega (arith, h))
+      go : Dec (u + j < E) → countOr d (pos u -ℤ pos E +ℤ pos j) < day
+      go (yes h) = rw (before d u j h) l
+      go (no h) = rw (since d u j (omega (arith, h)) (omega arith)) (omega (arith, h))
 
   pub before-E : (u : ℕ) → u < E → utcToGps es u ≡ refused 1
   before-E u l =
       let a = firstReading u in
       let b = secondReading u (pos (19 + k a)) a in
-      let a-low : a < day = rw (since-E u (19 * second)) (first-day 0 (u + 19 * second) (omega arith) (omega arith)) in
-      let b-low : b < day = rw (since-E u ((19 + k a) * second)) (first-day a (u + (19 + k a) * second) a-low (omega (arith, f .few a))) in
+      let a-low : a < day = first-day 0 u (19 * second) (omega arith) (omega arith) in
+      let b-low : b < day = first-day a u ((19 + k a) * second) a-low (omega (arith, f .few a)) in
       let none = f .none-on-the-first-day b b-low in
       by-readings u a b refl refl ∙ ap countOf (below (u + k b * second) E (omega arith))
 

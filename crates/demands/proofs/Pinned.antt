@@ -1,10 +1,9 @@
--- What demand 3 supposes is no more than it says: a table is `Regular` exactly if the rules call it so, and the definitions themselves are
--- answers that the contracts allow.
+-- What demand 3 supposes is no more than it says: a table is `Regular` exactly if the rules call it so, and the
+-- definitions themselves are answers that the contracts allow.
 use mathlib.Core.Path.{_≡_, refl}
 use mathlib.Core.Logic.{_↔_}
 use Prim.Native.Nat.{ℕ, _≤_}
 use Rattle.refusals.specs.Outcome.{Outcome}
-use Rattle.refusals.specs.declared.Refusal.the-variants.{Overflow, OffsetRange}
 use Rattle.scales.specs.Answers.{gpsIn, utcIn}
 use Rattle.scales.specs.declared.gps.GpsAnswer.{GpsAnswer}
 use Rattle.scales.specs.declared.gps.GpsAnswer.the-variants as gps
@@ -18,7 +17,7 @@ use Rattle.builtin.specs.Builtin.{builtin}
 use Rattle.builtin.proofs.gps_to_utc.Reads as builtin-gps-to-utc
 use Rattle.builtin.proofs.utc_to_gps.Reads as builtin-utc-to-gps
 use Rattle.demands.specs.OfCalls.{Allows, Regular}
-use Rattle.demands.proofs.Outcomes.{to-utc, to-gps}
+use Rattle.demands.proofs.AnswerOrRefusal.{to-utc, to-gps}
 
 -- at most 64 entries, and regular by the record with a day's nanoseconds written out
 pub regular-exactly : (t : LeapTable) → Regular t ↔ ((t .len ≤ 64) × exactly.Regular (entriesOf t))
@@ -28,16 +27,17 @@ regular-exactly t = (
 )
 
 -- each outcome of a conversion is told by some answer, so what the definitions say is allowed
-pub there-allowed : (g : ℕ) → Allows builtin-gps-to-utc.Post (λ κ a. a .0 .0 ≡ g) (λ κ r e. utcIn r) (gpsToUtc builtin g)
+pub there-allowed : (g : ℕ)
+    → Allows builtin-gps-to-utc.Post (λ κ a. a .0 .0 ≡ g) (λ κ r e. utcIn r) (gpsToUtc builtin g)
 there-allowed g =
     let (r, is) =
     to-utc (λ (o : Outcome ℕ). (r : UtcAnswer) × (utcIn r ≡ o)) (λ n. (utc.Count (record { 0 = n }), refl))
-    (utc.Refused Overflow, refl) (utc.Refused OffsetRange, refl) builtin g in
+    (λ w. (utc.Refused w, refl)) builtin g in
     (tt, (record { 0 = g }, tt), r, (record { 0 = g }, tt), refl, is, is)
 
 pub back-allowed : (u : ℕ) → Allows builtin-utc-to-gps.Post (λ κ a. a .0 .0 ≡ u) (λ κ r e. gpsIn r) (utcToGps builtin u)
 back-allowed u =
     let (r, is) =
     to-gps (λ (o : Outcome ℕ). (r : GpsAnswer) × (gpsIn r ≡ o)) (λ n. (gps.Count (record { 0 = n }), refl))
-    (gps.Refused Overflow, refl) (gps.Refused OffsetRange, refl) builtin u in
+    (λ w. (gps.Refused w, refl)) builtin u in
     (tt, (record { 0 = u }, tt), r, (record { 0 = u }, tt), refl, is, is)

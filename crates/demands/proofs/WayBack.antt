@@ -1,27 +1,22 @@
--- The way back over a regular list: a third lookup would find what the second found, so the answer is the earliest count;
--- and two counts that share a UTC count have one threshold between them, so they are one second apart.
-use mathlib.Core.Path.{_≡_, ap, _∙_, subst}
+-- The way back over a regular list: a third lookup would find what the second found, so the answer is the earliest
+-- count; and two counts that share a UTC count have one threshold between them, so they are one second apart.
+use mathlib.Core.Path.{_≡_, ap, subst}
 use mathlib.Core.Logic.{_≢_}
-use mathlib.Core.Bool.{true}
 use mathlib.Core.List.{List}
 use Prim.Native.Nat.{ℕ, _+_, _*_, _-_, _^_, _≤_, _<_}
 use native.Mathlib.Omega.{arith}
 use native.Mathlib.Decide.{decLe, decLt}
 use lib.ListN.{drop}
-use Rattle.refusals.specs.Outcome.{Outcome, answered, refused}
+use Rattle.refusals.specs.Outcome.{answered, refused}
+use Rattle.refusals.proofs.Given.{one-answer, no-refusal}
 use Rattle.counts.specs.Units.{second}
-use Rattle.tables.specs.Entries.{Entry, regular}
+use Rattle.scales.specs.Scales.{taiMinusGps}
+use Rattle.tables.specs.Entries.{Entry, day}
 use Rattle.conversions.specs.Conversions.{E, gpsToUtc, utcToGps}
 use Rattle.demands.specs.TwoInstants.{Converts, TwoInstants}
-use Rattle.tables.proofs.Passed.{Between}
-use Rattle.demands.proofs.LeapSeconds.{LeapSeconds, leaps, counted}
+use Rattle.tables.proofs.Reached.{Between}
+use Rattle.demands.proofs.LeapSeconds.{LeapSeconds}
 use Rattle.demands.proofs.OnNaturals.{tai, Reads, to-utc, from-gps, before-E, from-E, a, b}
-
-clash : {g k : ℕ} (o : Outcome ℕ) → o ≡ answered g → o ≡ refused k → ⊥
-clash o p q = let z : _≡_ {A = ℕ} 0 1 = cc in omega arith
-
-same : {g h : ℕ} (o : Outcome ℕ) → o ≡ answered g → o ≡ answered h → g ≡ h
-same o p q = cc
 
 -- how far two numbers lie apart
 abbrev distance : ℕ → ℕ → ℕ
@@ -33,21 +28,18 @@ no-three x y z p q r = omega arith
 
 module _ (es : List Entry) (k : ℕ → ℕ) (f : LeapSeconds es k) where
   abbrev There : ℕ → ℕ → Type 0
-  There g u = Converts (gpsToUtc es) g u
+  There g u = Converts 0 (gpsToUtc es) g u
 
   reads : {g u : ℕ} → There g u → Reads es k f g u
-  reads {g} {u} c = from-gps es k f g u (c .1)
+  reads {g} {u} c = from-gps es k f g u (c .2)
 
   -- no count converts to a UTC count before E
   not-before-E : (g u : ℕ) → There g u → E ≤ u
-  not-before-E g u c = go (decLe E u) (reads c)
+  not-before-E g u c = go (decLt (tai g) day)
     where
-      go : Dec (E ≤ u) → Reads es k f g u → E ≤ u
-      go (yes h) r = h
-      go (no h) r =
-          let few = f .few (tai g) in
-          let none = f .none-on-the-first-day (tai g) (omega (arith, r .exact, h)) in
-          omega (arith, r .exact)
+      go : Dec (tai g < day) → E ≤ u
+      go (yes h) = omega (arith, reads c .exact, f .none-on-the-first-day (tai g) h)
+      go (no h) = omega (arith, reads c .exact, f .few (tai g), h)
 
   -- what the way back answers from E on: the first reading and the leap seconds up to the second
   module _ (u : ℕ) (l : E ≤ u) (m : u < 2 ^ 64) where
@@ -73,9 +65,8 @@ module _ (es : List Entry) (k : ℕ → ℕ) (f : LeapSeconds es k) where
     comes-back : There back u
     comes-back =
         let few = f .few next in
-        let exact : u + k (tai back) * second ≡ back + E = omega (arith, settled) in
-        let read : Reads es k f back u = record { tai-fits = omega arith; utc-fits = m; exact = exact } in
-        (omega arith, to-utc es k f back u read)
+        let read : Reads es k f back u = record { tai-fits = omega arith; utc-fits = m; exact = omega (arith, settled) } in
+        (omega arith, omega arith, to-utc es k f back u read)
 
     -- and no earlier count does
     first-of-all : (g : ℕ) → There g u → back ≤ g
@@ -96,8 +87,8 @@ module _ (es : List Entry) (k : ℕ → ℕ) (f : LeapSeconds es k) where
   answer-is u g m e = go (decLe E u)
     where
       go : Dec (E ≤ u) → (l : E ≤ u) × (back u l m ≡ g)
-      go (yes h) = (h, same (utcToGps es u) (from-E es k f u h m) e)
-      go (no h) = absurd (clash (utcToGps es u) e (before-E es k f u (omega (arith, h))))
+      go (yes h) = (h, one-answer (utcToGps es u) (from-E es k f u h m) e)
+      go (no h) = absurd (no-refusal (utcToGps es u) e (before-E es k f u (omega (arith, h))))
 
   -- two that share a UTC count: the later one is a second and a leap second on
   apart : (g₁ g₂ u : ℕ) → There g₁ u → There g₂ u → g₁ < g₂ → (g₂ ≡ g₁ + second) × (k (tai g₁) < k (tai g₂))
@@ -116,10 +107,10 @@ module _ (es : List Entry) (k : ℕ → ℕ) (f : LeapSeconds es k) where
       go (yes h) = omega (arith, apart g₁ g₂ u c₁ c₂ h .0)
       go (no h) = omega (arith, apart g₂ g₁ u c₂ c₁ (omega (arith, h, n)) .0)
 
-  two-instants : TwoInstants es (gpsToUtc es) (utcToGps es)
+  pub two-instants : TwoInstants es taiMinusGps 0 (gpsToUtc es) (utcToGps es)
   two-instants = record {
     refused-exactly = λ u m. (
-      λ (n, r) g c. clash (utcToGps es u) (from-E es k f u (not-before-E g u c) m) r,
+      λ (n, r) g c. no-refusal (utcToGps es u) (from-E es k f u (not-before-E g u c) m) r,
       λ none. refused-else u m none (decLe E u),
     );
     the-earliest = λ u g m e g′ c. let (l, is) = answer-is u g m e in omega (arith, is, first-of-all u l m g′ c);
@@ -139,6 +130,3 @@ module _ (es : List Entry) (k : ℕ → ℕ) (f : LeapSeconds es k) where
     at-most-two = λ g₁ g₂ g₃ u c₁ c₂ c₃ n₁ n₂ n₃.
         no-three g₁ g₂ g₃ (a-second g₁ g₂ u c₁ c₂ n₁) (a-second g₂ g₃ u c₂ c₃ n₂) (a-second g₁ g₃ u c₁ c₃ n₃);
   }
-
-pub by-a-regular-list : (es : List Entry) → regular es ≡ true → TwoInstants es (gpsToUtc es) (utcToGps es)
-by-a-regular-list es r = two-instants es (leaps es) (counted es r)

@@ -2,14 +2,15 @@
 use mathlib.Core.Path.{_≡_}
 use mathlib.Core.Bool.{true, false}
 use mathlib.Core.List.{List, [], _∷_}
-use Prim.Native.Nat.{ℕ, _+_, _*_}
+use Prim.Native.Nat.{ℕ, _*_}
 use lib.IntN.{pos}
 use Rattle.refusals.specs.Outcome.{answered, refused}
+use Rattle.counts.specs.Exact.{up}
 use Rattle.counts.specs.Units.{second, weekSeconds, ofUnits}
 use Rattle.civil.specs.Fields.{fields, fieldsOf, countAt}
 use Rattle.tables.specs.Entries.{Entry, entry, regular}
 use Rattle.tables.specs.Slots.{tableOf, extended}
-use Rattle.conversions.specs.Conversions.{gpsToUtc, utcToGps, glonassToUtc, glonassToGps}
+use Rattle.conversions.specs.Conversions.{glonassEpoch, gpsToUtc, utcToGps, glonassToGps}
 use Rattle.builtin.specs.Builtin.{builtin}
 
 infix 68 _is_
@@ -42,7 +43,7 @@ examples week =
     gpsToUtc builtin 18_193_851_291_709_551_615 is answered 18_446_744_073_709_551_615 ∷
     gpsToUtc builtin 18_193_851_291_709_551_616 is refused 1 ∷
     utcToGps builtin (1_420_156_805 * second) is answered (1_167_264_023 * second) ∷
-    glonassToUtc 0 is answered (757_371_600 * second) ∷
+    up glonassEpoch 0 is answered (757_371_600 * second) ∷
     utcToGps builtin (757_371_600 * second) is answered (504_478_810 * second) ∷
     glonassToGps builtin 0 is answered (504_478_810 * second) ∷
     gpsToUtc [] 0 is answered (252_892_800 * second) ∷

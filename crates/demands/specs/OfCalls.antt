@@ -1,32 +1,31 @@
 -- Demand 3 of the calls that convert, pair by pair: it holds of whatever their contracts allow them to answer.
 use mathlib.Core.Path.{_≡_}
-use mathlib.Core.Bool.{true, cond}
+use mathlib.Core.Bool.{true}
 use mathlib.Core.List.{List}
 use Prim.Native.Nat.{ℕ, _^_, _≤_, _<_}
-use lib.Dec.{eqb}
 use denote.Ref.{now}
-use Rattle.refusals.specs.Outcome.{Outcome, answered, refused}
+use lib.ListN.{length}
+use Rattle.refusals.specs.Outcome.{Outcome, unless}
+use Rattle.counts.specs.Answers.{countIn}
+use Rattle.counts.specs.declared.CountAnswer.the-variants as count
 use Rattle.scales.specs.Answers.{gpsIn, utcIn}
+use Rattle.scales.specs.Scales.{taiMinusGps}
 use Rattle.tables.specs.Entries.{Entry, regular}
 use Rattle.tables.specs.Slots.{entriesOf}
 use Rattle.tables.specs.declared.LeapTable.{LeapTable}
-use Rattle.images.specs.Image.{tableOfImage}
+use Rattle.images.specs.Image.{imageBytes, tableIn}
 use Rattle.builtin.specs.Builtin.{builtin}
 use Rattle.conversions.proofs.gps_to_utc.Reads as gps-to-utc
 use Rattle.conversions.proofs.utc_to_gps.Reads as utc-to-gps
-use Rattle.inplace.proofs.gps_to_utc.Reads as inplace-gps-to-utc
-use Rattle.inplace.proofs.utc_to_gps.Reads as inplace-utc-to-gps
+use Rattle.images.proofs.table.utc_from_gps.Reads as image-utc-from-gps
+use Rattle.images.proofs.table.gps_from_utc.Reads as image-gps-from-utc
 use Rattle.builtin.proofs.gps_to_utc.Reads as builtin-gps-to-utc
 use Rattle.builtin.proofs.utc_to_gps.Reads as builtin-utc-to-gps
-use Rattle.plaitgate.proofs.by_table.plaitgate_gps_to_utc.Reads as host-gps-to-utc
-use Rattle.plaitgate.proofs.by_table.plaitgate_utc_to_gps.Reads as host-utc-to-gps
+use Rattle.plaitgate.proofs.by_table.plaitgate_table_gps_to_utc.Reads as host-gps-to-utc
+use Rattle.plaitgate.proofs.by_table.plaitgate_table_utc_to_gps.Reads as host-utc-to-gps
 use Rattle.plaitgate.proofs.by_builtin.plaitgate_builtin_gps_to_utc.Reads as host-builtin-gps-to-utc
 use Rattle.plaitgate.proofs.by_builtin.plaitgate_builtin_utc_to_gps.Reads as host-builtin-utc-to-gps
 use Rattle.demands.specs.TwoInstants.{TwoInstants}
-
--- what a host is told by a number and a value: an answer where the number is 0, and else a refusal
-abbrev pub told : ℕ → ℕ → Outcome ℕ
-told number value = cond (eqb number 0) (answered value) (refused number)
 
 module _ {Lifetimes : Type 0} {Arguments Answer End : Lifetimes → Type 0}
     (Contract : (κ : Lifetimes) → Arguments κ → Answer κ → End κ → Type 0) where
@@ -37,13 +36,13 @@ module _ {Lifetimes : Type 0} {Arguments Answer End : Lifetimes → Type 0}
       (κ : Lifetimes) × (a : Arguments κ) × (r : Answer κ) × (e : End κ)
       × Asks κ a × Contract κ a r e × (tells κ r e ≡ o)
 
--- whatever two calls answer to each count of 64 bits, as far as they are allowed to
+-- of GPS to UTC and back: whatever two calls answer to each count of 64 bits, as far as they are allowed to
 abbrev pub TwoInstantsOf : List Entry → (There Back : ℕ → Outcome ℕ → Type 0) → Type 0
 TwoInstantsOf es There Back =
     (there back : ℕ → Outcome ℕ) → ((g : ℕ) → g < 2 ^ 64 → There g (there g)) → ((u : ℕ) → u < 2 ^ 64 → Back u (back u))
-    → TwoInstants es there back
+    → TwoInstants es taiMinusGps 0 there back
 
--- a table that says it has at most 64 entries, and they are regular; bytes of another size than an image's hold none
+-- a table that says it has at most 64 entries, and they are regular
 abbrev pub Regular : LeapTable → Type 0
 Regular t = (t .len ≤ 64) × (regular (entriesOf t) ≡ true)
 
@@ -52,19 +51,19 @@ pub record Demand3 : Type 0 where
   pub by-value : (t : LeapTable) → Regular t → TwoInstantsOf (entriesOf t)
       (λ g. Allows gps-to-utc.Post (λ κ a. (a .0 .0 ≡ g) × (a .1 .0 ≡ t)) (λ κ r e. utcIn r))
       (λ u. Allows utc-to-gps.Post (λ κ a. (a .0 .0 ≡ u) × (a .1 .0 ≡ t)) (λ κ r e. gpsIn r))
-  -- `inplace::gps_to_utc` and `utc_to_gps`, by an image
-  pub in-place : (b : List ℕ) → Regular (tableOfImage b) → TwoInstantsOf (entriesOf (tableOfImage b))
-      (λ g. Allows inplace-gps-to-utc.Post (λ κ a. (a .0 .0 ≡ g) × (now (a .1 .0) ≡ b)) (λ κ r e. utcIn r))
-      (λ u. Allows inplace-utc-to-gps.Post (λ κ a. (a .0 .0 ≡ u) × (now (a .1 .0) ≡ b)) (λ κ r e. gpsIn r))
+  -- `images::table::utc_from_gps` and `gps_from_utc`, by an image
+  pub in-place : (b : List ℕ) → length b ≡ imageBytes → Regular (tableIn b) → TwoInstantsOf (entriesOf (tableIn b))
+      (λ g. Allows image-utc-from-gps.Post (λ κ a. (a .0 ≡ count.Count g) × (now (a .1 .0) ≡ b)) (λ κ r e. countIn r))
+      (λ u. Allows image-gps-from-utc.Post (λ κ a. (a .0 ≡ count.Count u) × (now (a .1 .0) ≡ b)) (λ κ r e. countIn r))
   -- `builtin::gps_to_utc` and `utc_to_gps`
   pub built-in : TwoInstantsOf builtin
       (λ g. Allows builtin-gps-to-utc.Post (λ κ a. a .0 .0 ≡ g) (λ κ r e. utcIn r))
       (λ u. Allows builtin-utc-to-gps.Post (λ κ a. a .0 .0 ≡ u) (λ κ r e. gpsIn r))
-  -- `plaitgate_gps_to_utc` and `plaitgate_utc_to_gps`, by an image
-  pub exported : (b : List ℕ) → Regular (tableOfImage b) → TwoInstantsOf (entriesOf (tableOfImage b))
-      (λ g. Allows host-gps-to-utc.Post (λ κ a. (a .0 ≡ g) × (now (a .1 .0) ≡ b)) (λ κ k e. told k (now (e .1 .1 .0))))
-      (λ u. Allows host-utc-to-gps.Post (λ κ a. (a .0 ≡ u) × (now (a .1 .0) ≡ b)) (λ κ k e. told k (now (e .1 .1 .0))))
+  -- `plaitgate_table_gps_to_utc` and `plaitgate_table_utc_to_gps`, by an image
+  pub exported : (b : List ℕ) → length b ≡ imageBytes → Regular (tableIn b) → TwoInstantsOf (entriesOf (tableIn b))
+      (λ g. Allows host-gps-to-utc.Post (λ κ a. (a .0 ≡ g) × (now (a .1 .0) ≡ b)) (λ κ k e. unless k (now (e .1 .1 .0))))
+      (λ u. Allows host-utc-to-gps.Post (λ κ a. (a .0 ≡ u) × (now (a .1 .0) ≡ b)) (λ κ k e. unless k (now (e .1 .1 .0))))
   -- `plaitgate_builtin_gps_to_utc` and `plaitgate_builtin_utc_to_gps`
   pub exported-built-in : TwoInstantsOf builtin
-      (λ g. Allows host-builtin-gps-to-utc.Post (λ κ a. a .0 ≡ g) (λ κ k e. told k (now (e .1 .0))))
-      (λ u. Allows host-builtin-utc-to-gps.Post (λ κ a. a .0 ≡ u) (λ κ k e. told k (now (e .1 .0))))
+      (λ g. Allows host-builtin-gps-to-utc.Post (λ κ a. a .0 ≡ g) (λ κ k e. unless k (now (e .1 .0))))
+      (λ u. Allows host-builtin-utc-to-gps.Post (λ κ a. a .0 ≡ u) (λ κ k e. unless k (now (e .1 .0))))

@@ -1,6 +1,7 @@
 -- Demand 1: a refusal gives zeros, and leaves the table as it was. proofs/Demand1 has it of each call.
 -- A contract is read as the checker reads it: a statement of the lifetimes, the arguments, the answer, and what the
--- arguments are at the end. What a call writes is read through its references, named by their place among the arguments.
+-- arguments are at the end. What a call writes is read through its references, named by their place among the
+-- arguments.
 use mathlib.Core.Path.{_≡_}
 use mathlib.Core.Logic.{_≢_}
 use mathlib.Core.List.{List, []}

@@ -2,19 +2,20 @@
 -- refusal writes zeros.
 use lib.IntN.{pos}
 use denote.Ref.{now}
-use Rattle.conversions.specs.Conversions.{gpsToUtc, utcToGps, glonassToUtc, utcToGlonass, glonassToGps, gpsToGlonass, unixToGps, gpsToUnix}
+use Rattle.refusals.proofs.Given.{zeros-on-refusal}
+use Rattle.counts.specs.Exact.{up, down}
+use Rattle.conversions.specs.Conversions.{glonassEpoch, gpsToUtc, utcToGps, glonassToGps, gpsToGlonass, unixToGps, gpsToUnix}
 use Rattle.builtin.specs.Builtin.{builtin}
 use Rattle.plaitgate.proofs.by_builtin
 use Rattle.plaitgate.proofs.by_table
 use Rattle.images.specs.Image.{byImage}
 use Rattle.demands.specs.RefusalsLeave.{ZerosOnRefusal}
-use Rattle.demands.proofs.Zeros.{zeros-on-refusal}
 
 pub glonass-to-utc : ZerosOnRefusal by_builtin.plaitgate_glonass_to_utc.Reads.Post 0 (λ κ e. now (e .1 .0))
-glonass-to-utc κ a k e = zeros-on-refusal (glonassToUtc (a .0))
+glonass-to-utc κ a k e = zeros-on-refusal (up glonassEpoch (a .0))
 
 pub utc-to-glonass : ZerosOnRefusal by_builtin.plaitgate_utc_to_glonass.Reads.Post 0 (λ κ e. now (e .1 .0))
-utc-to-glonass κ a k e = zeros-on-refusal (utcToGlonass (a .0))
+utc-to-glonass κ a k e = zeros-on-refusal (down glonassEpoch (a .0))
 
 pub builtin-gps-to-utc : ZerosOnRefusal by_builtin.plaitgate_builtin_gps_to_utc.Reads.Post 0 (λ κ e. now (e .1 .0))
 builtin-gps-to-utc κ a k e = zeros-on-refusal (gpsToUtc builtin (a .0))
@@ -36,21 +37,21 @@ pub builtin-gps-as-unix-seconds : ZerosOnRefusal by_builtin.plaitgate_builtin_gp
     (pos 0) (λ κ e. now (e .1 .0))
 builtin-gps-as-unix-seconds κ a k e = zeros-on-refusal (gpsToUnix builtin (a .0))
 
-pub gps-to-utc : ZerosOnRefusal by_table.plaitgate_gps_to_utc.Reads.Post 0 (λ κ e. now (e .1 .1 .0))
+pub gps-to-utc : ZerosOnRefusal by_table.plaitgate_table_gps_to_utc.Reads.Post 0 (λ κ e. now (e .1 .1 .0))
 gps-to-utc κ a k e = zeros-on-refusal (byImage (now (a .1 .0)) (λ es. gpsToUtc es (a .0)))
 
-pub utc-to-gps : ZerosOnRefusal by_table.plaitgate_utc_to_gps.Reads.Post 0 (λ κ e. now (e .1 .1 .0))
+pub utc-to-gps : ZerosOnRefusal by_table.plaitgate_table_utc_to_gps.Reads.Post 0 (λ κ e. now (e .1 .1 .0))
 utc-to-gps κ a k e = zeros-on-refusal (byImage (now (a .1 .0)) (λ es. utcToGps es (a .0)))
 
-pub glonass-to-gps : ZerosOnRefusal by_table.plaitgate_glonass_to_gps.Reads.Post 0 (λ κ e. now (e .1 .1 .0))
+pub glonass-to-gps : ZerosOnRefusal by_table.plaitgate_table_glonass_to_gps.Reads.Post 0 (λ κ e. now (e .1 .1 .0))
 glonass-to-gps κ a k e = zeros-on-refusal (byImage (now (a .1 .0)) (λ es. glonassToGps es (a .0)))
 
-pub gps-to-glonass : ZerosOnRefusal by_table.plaitgate_gps_to_glonass.Reads.Post 0 (λ κ e. now (e .1 .1 .0))
+pub gps-to-glonass : ZerosOnRefusal by_table.plaitgate_table_gps_to_glonass.Reads.Post 0 (λ κ e. now (e .1 .1 .0))
 gps-to-glonass κ a k e = zeros-on-refusal (byImage (now (a .1 .0)) (λ es. gpsToGlonass es (a .0)))
 
-pub gps-from-unix-seconds : ZerosOnRefusal by_table.plaitgate_gps_from_unix_seconds.Reads.Post 0 (λ κ e. now (e .1 .1 .0))
+pub gps-from-unix-seconds : ZerosOnRefusal by_table.plaitgate_table_gps_from_unix_seconds.Reads.Post 0 (λ κ e. now (e .1 .1 .0))
 gps-from-unix-seconds κ a k e = zeros-on-refusal (byImage (now (a .1 .0)) (λ es. unixToGps es (a .0)))
 
-pub gps-as-unix-seconds : ZerosOnRefusal by_table.plaitgate_gps_as_unix_seconds.Reads.Post
+pub gps-as-unix-seconds : ZerosOnRefusal by_table.plaitgate_table_gps_as_unix_seconds.Reads.Post
     (pos 0) (λ κ e. now (e .1 .1 .0))
 gps-as-unix-seconds κ a k e = zeros-on-refusal (byImage (now (a .1 .0)) (λ es. gpsToUnix es (a .0)))

@@ -1,89 +1,38 @@
--- Counts and durations: each call gives the number and the value of an outcome, so a refusal writes zeros.
+-- What one scale alone has, and durations: each call gives the number and the value of an outcome, so a refusal writes
+-- zeros.
 use Prim.Native.Nat.{ℕ, _+_, _*_}
-use lib.IntN.{pos, _+ℤ_, _-ℤ_, _*ℤ_}
+use lib.IntN.{pos, _-ℤ_, _*ℤ_}
 use denote.Ref.{now}
-use Rattle.counts.specs.Exact.{countOf, durationOf}
+use Rattle.refusals.proofs.Given.{zeros-on-refusal}
+use Rattle.counts.specs.Exact.{countOf}
 use Rattle.counts.specs.Units.{second, daySeconds, weekSeconds, unixOffset, ofUnits, partsFrom}
 use Rattle.counts.specs.declared.units.DurationParts.{DurationParts}
 use Rattle.scales.specs.Scales.{taiMinusGps}
 use Rattle.plaitgate.proofs.durations
-use Rattle.plaitgate.proofs.glonass
-use Rattle.plaitgate.proofs.gps
-use Rattle.plaitgate.proofs.tai
-use Rattle.plaitgate.proofs.utc
+use Rattle.plaitgate.proofs.glonass_days
+use Rattle.plaitgate.proofs.gps_weeks
+use Rattle.plaitgate.proofs.utc_unix
 use Rattle.demands.specs.RefusalsLeave.{ZerosOnRefusal}
-use Rattle.demands.proofs.Zeros.{zeros-on-refusal}
 
 abbrev partsWith : ℕ → ℕ → DurationParts
 partsWith s n = record { seconds = s; nanos = n }
 
-pub gps-checked-from-seconds : ZerosOnRefusal gps.plaitgate_gps_checked_from_seconds.Reads.Post 0 (λ κ e. now (e .1 .0))
-gps-checked-from-seconds κ a k e = zeros-on-refusal (countOf (pos (a .0 * second)))
-
-pub gps-checked-add : ZerosOnRefusal gps.plaitgate_gps_checked_add.Reads.Post 0 (λ κ e. now (e .1 .1 .0))
-gps-checked-add κ a k e = zeros-on-refusal (countOf (pos (a .0) +ℤ a .1 .0))
-
-pub gps-checked-sub-duration : ZerosOnRefusal gps.plaitgate_gps_checked_sub_duration.Reads.Post 0 (λ κ e. now (e .1 .1 .0))
-gps-checked-sub-duration κ a k e = zeros-on-refusal (countOf (pos (a .0) -ℤ a .1 .0))
-
-pub gps-checked-elapsed : ZerosOnRefusal gps.plaitgate_gps_checked_elapsed.Reads.Post (pos 0) (λ κ e. now (e .1 .1 .0))
-gps-checked-elapsed κ a k e = zeros-on-refusal (durationOf (pos (a .0) -ℤ pos (a .1 .0)))
-
-pub utc-checked-from-seconds : ZerosOnRefusal utc.plaitgate_utc_checked_from_seconds.Reads.Post 0 (λ κ e. now (e .1 .0))
-utc-checked-from-seconds κ a k e = zeros-on-refusal (countOf (pos (a .0 * second)))
-
-pub utc-checked-add : ZerosOnRefusal utc.plaitgate_utc_checked_add.Reads.Post 0 (λ κ e. now (e .1 .1 .0))
-utc-checked-add κ a k e = zeros-on-refusal (countOf (pos (a .0) +ℤ a .1 .0))
-
-pub utc-checked-sub-duration : ZerosOnRefusal utc.plaitgate_utc_checked_sub_duration.Reads.Post 0 (λ κ e. now (e .1 .1 .0))
-utc-checked-sub-duration κ a k e = zeros-on-refusal (countOf (pos (a .0) -ℤ a .1 .0))
-
-pub utc-checked-elapsed : ZerosOnRefusal utc.plaitgate_utc_checked_elapsed.Reads.Post (pos 0) (λ κ e. now (e .1 .1 .0))
-utc-checked-elapsed κ a k e = zeros-on-refusal (durationOf (pos (a .0) -ℤ pos (a .1 .0)))
-
-pub glonass-checked-from-seconds : ZerosOnRefusal glonass.plaitgate_glonass_checked_from_seconds.Reads.Post
-    0 (λ κ e. now (e .1 .0))
-glonass-checked-from-seconds κ a k e = zeros-on-refusal (countOf (pos (a .0 * second)))
-
-pub glonass-checked-add : ZerosOnRefusal glonass.plaitgate_glonass_checked_add.Reads.Post 0 (λ κ e. now (e .1 .1 .0))
-glonass-checked-add κ a k e = zeros-on-refusal (countOf (pos (a .0) +ℤ a .1 .0))
-
-pub glonass-checked-sub-duration : ZerosOnRefusal glonass.plaitgate_glonass_checked_sub_duration.Reads.Post
-    0 (λ κ e. now (e .1 .1 .0))
-glonass-checked-sub-duration κ a k e = zeros-on-refusal (countOf (pos (a .0) -ℤ a .1 .0))
-
-pub glonass-checked-elapsed : ZerosOnRefusal glonass.plaitgate_glonass_checked_elapsed.Reads.Post
-    (pos 0) (λ κ e. now (e .1 .1 .0))
-glonass-checked-elapsed κ a k e = zeros-on-refusal (durationOf (pos (a .0) -ℤ pos (a .1 .0)))
-
-pub tai-checked-from-seconds : ZerosOnRefusal tai.plaitgate_tai_checked_from_seconds.Reads.Post 0 (λ κ e. now (e .1 .0))
-tai-checked-from-seconds κ a k e = zeros-on-refusal (countOf (pos (a .0 * second)))
-
-pub tai-checked-add : ZerosOnRefusal tai.plaitgate_tai_checked_add.Reads.Post 0 (λ κ e. now (e .1 .1 .0))
-tai-checked-add κ a k e = zeros-on-refusal (countOf (pos (a .0) +ℤ a .1 .0))
-
-pub tai-checked-sub-duration : ZerosOnRefusal tai.plaitgate_tai_checked_sub_duration.Reads.Post 0 (λ κ e. now (e .1 .1 .0))
-tai-checked-sub-duration κ a k e = zeros-on-refusal (countOf (pos (a .0) -ℤ a .1 .0))
-
-pub tai-checked-elapsed : ZerosOnRefusal tai.plaitgate_tai_checked_elapsed.Reads.Post (pos 0) (λ κ e. now (e .1 .1 .0))
-tai-checked-elapsed κ a k e = zeros-on-refusal (durationOf (pos (a .0) -ℤ pos (a .1 .0)))
-
-pub gps-from-week-tow : ZerosOnRefusal gps.plaitgate_gps_from_week_tow.Reads.Post 0 (λ κ e. now (e .1 .1 .1 .0))
+pub gps-from-week-tow : ZerosOnRefusal gps_weeks.plaitgate_gps_from_week_tow.Reads.Post 0 (λ κ e. now (e .1 .1 .1 .0))
 gps-from-week-tow κ a k e = zeros-on-refusal (ofUnits weekSeconds (a .0) (a .1 .0) (a .1 .1 .0))
 
-pub gps-to-tai : ZerosOnRefusal gps.plaitgate_gps_to_tai.Reads.Post 0 (λ κ e. now (e .1 .0))
+pub gps-to-tai : ZerosOnRefusal gps_weeks.plaitgate_gps_to_tai.Reads.Post 0 (λ κ e. now (e .1 .0))
 gps-to-tai κ a k e = zeros-on-refusal (countOf (pos (a .0 + taiMinusGps)))
 
-pub gps-from-tai : ZerosOnRefusal gps.plaitgate_gps_from_tai.Reads.Post 0 (λ κ e. now (e .1 .0))
+pub gps-from-tai : ZerosOnRefusal gps_weeks.plaitgate_gps_from_tai.Reads.Post 0 (λ κ e. now (e .1 .0))
 gps-from-tai κ a k e = zeros-on-refusal (countOf (pos (a .0) -ℤ pos taiMinusGps))
 
-pub glonass-from-day-tod : ZerosOnRefusal glonass.plaitgate_glonass_from_day_tod.Reads.Post 0 (λ κ e. now (e .1 .1 .1 .0))
+pub glonass-from-day-tod : ZerosOnRefusal glonass_days.plaitgate_glonass_from_day_tod.Reads.Post 0 (λ κ e. now (e .1 .1 .1 .0))
 glonass-from-day-tod κ a k e = zeros-on-refusal (ofUnits daySeconds (a .0) (a .1 .0) (a .1 .1 .0))
 
-pub utc-from-unix-seconds : ZerosOnRefusal utc.plaitgate_utc_from_unix_seconds.Reads.Post 0 (λ κ e. now (e .1 .0))
+pub utc-from-unix-seconds : ZerosOnRefusal utc_unix.plaitgate_utc_from_unix_seconds.Reads.Post 0 (λ κ e. now (e .1 .0))
 utc-from-unix-seconds κ a k e = zeros-on-refusal (countOf ((a .0 -ℤ pos unixOffset) *ℤ pos second))
 
-pub utc-from-unix-nanos : ZerosOnRefusal utc.plaitgate_utc_from_unix_nanos.Reads.Post 0 (λ κ e. now (e .1 .0))
+pub utc-from-unix-nanos : ZerosOnRefusal utc_unix.plaitgate_utc_from_unix_nanos.Reads.Post 0 (λ κ e. now (e .1 .0))
 utc-from-unix-nanos κ a k e = zeros-on-refusal (countOf (a .0 -ℤ pos (unixOffset * second)))
 
 pub duration-parts-new : ZerosOnRefusal durations.plaitgate_duration_parts_new.Reads.Post

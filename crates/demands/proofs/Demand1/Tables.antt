@@ -1,12 +1,9 @@
 -- By the definitions a refused extension gives the table that came, and a refused building one with no entry.
-use mathlib.Core.Path.{_≡_, refl, ap, _∙_}
-use mathlib.Core.Logic.{_≢_}
-use Prim.Native.Nat.{ℕ}
+use mathlib.Core.Path.{_≡_, refl}
 use denote.Ref.{now}
+use Rattle.refusals.proofs.Given.{left-on-refusal}
 use Rattle.tables.specs.Answers.{takenIn}
 use Rattle.tables.specs.Slots.{paired, extended}
-use Rattle.tables.specs.declared.LeapEntry.{LeapEntry}
-use Rattle.tables.specs.declared.LeapTable.{LeapTable}
 use Rattle.tables.proofs.Buildings.{building-refused}
 use Rattle.tables.proofs.Extensions.{refusal-keeps}
 use Rattle.tables.proofs.LeapTable
@@ -14,19 +11,13 @@ use Rattle.lent.proofs.Stated.{Fact, States}
 use Rattle.lent.proofs.try_extend as lent-try-extend
 use Rattle.demands.specs.RefusalsLeave.{TableKept, TableEmpty}
 
-kept : (t : LeapTable) (e : LeapEntry) {k : ℕ} {left : LeapTable} → (k, left) ≡ extended t e → k ≢ 0 → left ≡ t
-kept t e p n =
-    ap (λ (y : ℕ × LeapTable). y .1) p ∙ refusal-keeps t e (λ z. n (ap (λ (y : ℕ × LeapTable). y .0) p ∙ z))
-
 pub try-extend : TableKept LeapTable.try_extend.Reads.Post
     (λ κ x. takenIn (x .answer)) (λ κ x e. x .table) (λ κ a. a .0)
-try-extend κ a x e = kept (a .0) (a .1 .0)
+try-extend κ a x e = left-on-refusal (refusal-keeps (a .0) (a .1 .0))
 
 pub from-lists : TableEmpty LeapTable.from_lists.Reads.Post
     (λ κ x. takenIn (x .answer)) (λ κ x e. x .table)
-from-lists κ a x e p n =
-    ap (λ (y : ℕ × LeapTable). y .1) p
-    ∙ building-refused (paired (now (a .0)) (now (a .1 .0))) (λ z. n (ap (λ (y : ℕ × LeapTable). y .0) p ∙ z))
+from-lists κ a x e = left-on-refusal (building-refused (paired (now (a .0)) (now (a .1 .0))))
 
 -- in place, of the fact that the call's contract states
 pub try-extend-in-place : (says : Fact lent-try-extend.ended)
@@ -35,5 +26,5 @@ pub try-extend-in-place : (says : Fact lent-try-extend.ended)
 try-extend-in-place = (
   λ κ a r e. (takenIn r, e .0 .now) ≡ extended (a .0 .now) (a .1 .0),
   λ M 𝓤 H A mem run κ a g r e. refl,
-  λ κ a r e. kept (a .0 .now) (a .1 .0),
+  λ κ a r e. left-on-refusal (refusal-keeps (a .0 .now) (a .1 .0)),
 )

@@ -1,0 +1,59 @@
+-- What a conversion between GPS and UTC gives is a count or one of the refusals, so what holds of these holds of it.
+use mathlib.Core.Bool.{Bool, true, false, cond}
+use mathlib.Core.List.{List}
+use Prim.Native.Nat.{ℕ, _+_, _^_}
+use lib.Dec.{ltb}
+use lib.IntN.{ℤ, pos, negsuc, _+ℤ_, _-ℤ_}
+use lib.Signed.{ltZ}
+use Rattle.refusals.specs.Number.{numberOf}
+use Rattle.refusals.specs.Outcome.{Outcome, answered, refused, then}
+use Rattle.refusals.specs.declared.Refusal.{Refusal}
+use Rattle.refusals.specs.declared.Refusal.the-variants.{Overflow, BadTable, OffsetRange}
+use Rattle.refusals.proofs.Given.{Numbered}
+use Rattle.refusals.proofs.Tells.{number-not-zero}
+use Rattle.counts.specs.Exact.{countOf}
+use Rattle.scales.specs.Scales.{taiMinusGps}
+use Rattle.tables.specs.Entries.{Entry, offsetAt}
+use Rattle.tables.specs.Slots.{entriesOf, validTable}
+use Rattle.images.specs.Image.{sized, tableIn, byImage}
+use Rattle.conversions.specs.Conversions.{E, inNanos, inRange, utcAtOffset, lastReading, gpsToUtc, utcToGps}
+
+module _ (P : Outcome ℕ → Type 0) where
+  -- whichever of the two a test takes
+  either : (b : Bool) (x y : Outcome ℕ) → P x → P y → P (cond b x y)
+  either true x y p q = p
+  either false x y p q = q
+
+module _ (P : Outcome ℕ → Type 0) (of-count : (n : ℕ) → P (answered n))
+    (of-refusal : (w : Refusal) → P (refused (numberOf w))) where
+  count : (z : ℤ) → P (countOf z)
+  count (pos k) = either P (ltb k (2 ^ 64)) (answered k) (refused 1) (of-count k) (of-refusal Overflow)
+  count (negsuc k) = of-refusal Overflow
+
+  at-offset : (n z : ℤ) → P (inRange n (countOf z))
+  at-offset n z = either P (ltZ n (negsuc 2_147_483_628)) (refused 9) (countOf z) (of-refusal OffsetRange) (count z)
+
+  pub to-utc : (es : List Entry) (g : ℕ) → P (gpsToUtc es g)
+  to-utc es g =
+      let tai = g + taiMinusGps in
+      let n = offsetAt es tai in
+      either (λ o. P (then o (λ t. utcAtOffset (offsetAt es t) g))) (ltb tai (2 ^ 64)) (answered tai) (refused 1)
+      (at-offset n (pos g -ℤ inNanos (n -ℤ pos 19) +ℤ pos E)) (of-refusal Overflow)
+
+  pub to-gps : (es : List Entry) (u : ℕ) → P (utcToGps es u)
+  to-gps es u =
+      let n = offsetAt es (lastReading es u) in
+      at-offset n (pos u -ℤ pos E +ℤ inNanos (n -ℤ pos 19))
+
+pub to-utc-numbered : (es : List Entry) (g : ℕ) → Numbered (gpsToUtc es g)
+to-utc-numbered = to-utc Numbered (λ n. tt) number-not-zero
+
+pub to-gps-numbered : (es : List Entry) (u : ℕ) → Numbered (utcToGps es u)
+to-gps-numbered = to-gps Numbered (λ n. tt) number-not-zero
+
+pub by-image-numbered : (b : List ℕ) (answer : List Entry → Outcome ℕ) → ((es : List Entry) → Numbered (answer es))
+    → Numbered (byImage b answer)
+by-image-numbered b answer n = or-8 (sized b) _ (or-8 (validTable (tableIn b)) _ (n (entriesOf (tableIn b))))
+  where
+    or-8 : (test : Bool) (o : Outcome ℕ) → Numbered o → Numbered (cond test o (refused 8))
+    or-8 test o n = either Numbered test o (refused 8) n (number-not-zero BadTable)
