@@ -1,8 +1,5 @@
-pub mod Years
-pub mod Outcomes
-pub mod Ends
+pub mod LineEnds
 pub mod Cutting
-pub mod Feeding
+pub mod Blocks
 pub mod WholeInput
-pub mod ReadBack
-pub mod Calls
+pub mod OutcomeLines

@@ -1,20 +1,21 @@
--- The lines of an input, and what is written for them: proofs/WholeInput.antt says that this is what the programs' blocks write.
+-- The lines of an input, and what is written for them: proofs/WholeInput.antt says that this is what the blocks of a
+-- program write.
 use Prim.Native.Nat.{ℕ}
 use mathlib.Core.Bool.{cond}
 use mathlib.Core.List.{List, [], _∷_, _++_}
 use lib.Dec.{eqb}
 
--- a byte before the first line
-abbrev pub onto : ℕ → List (List ℕ) → List (List ℕ)
-onto b [] = (b ∷ []) ∷ []
-onto b (l ∷ ls) = (b ∷ l) ∷ ls
+-- lines, with a byte put in front of the first
+abbrev pub prependByte : ℕ → List (List ℕ) → List (List ℕ)
+prependByte b [] = (b ∷ []) ∷ []
+prependByte b (l ∷ ls) = (b ∷ l) ∷ ls
 
--- a line ends at byte 10 or at the end; there is none behind the last byte 10
+-- a line ends at byte 10 or at the end of the input; there is none after the last byte 10
 abbrev pub linesOf : List ℕ → List (List ℕ)
 linesOf [] = []
-linesOf (b ∷ bs) = cond (eqb b 10) ([] ∷ linesOf bs) (onto b (linesOf bs))
+linesOf (b ∷ bs) = cond (eqb b 10) ([] ∷ linesOf bs) (prependByte b (linesOf bs))
 
--- the answers to lines, one behind the other
+-- the answers to lines, one after the other
 abbrev pub answers : (List ℕ → List ℕ) → List (List ℕ) → List ℕ
 answers f [] = []
 answers f (l ∷ ls) = f l ++ answers f ls

@@ -8,7 +8,7 @@ use native.Mathlib.Omega.{arith}
 use lib.Dec.{leb, lit≤}
 use lib.ListN.{length, getD, take, drop, take-append-drop}
 use lib.Seq.{drop-cons, take-take, length-take-le}
-use Rattle.digits.proofs.WayBack.{first-half, second-half}
+use Rattle.words.proofs.WayBack.{first-half, second-half}
 use Rattle.stamps.specs.Form.{within}
 
 pub as-long : (l h s : List ℕ) → within l h s ≡ true → length s ≡ length l
@@ -42,8 +42,9 @@ not-as-long l h s n = by-test (within l h s) refl
     by-test true e = absurd (n (as-long l h s e))
     by-test false e = refl
 
--- two parts, one behind the other
-pub join : (l h s m i t : List ℕ) → length h ≡ length l → within l h s ≡ true → within m i t ≡ true → within (l ++ m) (h ++ i) (s ++ t) ≡ true
+-- two parts, one after the other
+pub join : (l h s m i t : List ℕ) → length h ≡ length l → within l h s ≡ true → within m i t ≡ true
+    → within (l ++ m) (h ++ i) (s ++ t) ≡ true
 join [] [] [] m i t n e f = f
 join [] (y ∷ h) [] m i t n e f = let z : _≡_ {A = ℕ} 0 1 = cc in absurd (never z)
   where
@@ -70,7 +71,8 @@ module _ (l h s : List ℕ) (long-l : length l ≡ 30) (long-h : length h ≡ 30
       by-test true e = sym (start-within 16 l h s e) ∙ f
       by-test false e = refl
 
-  pub at-end : length s ≡ 30 → within (take 16 l) (take 16 h) (take 16 s) ≡ true → within (drop 14 l) (drop 14 h) (drop 14 s) ≡ within l h s
+  pub at-end : length s ≡ 30 → within (take 16 l) (take 16 h) (take 16 s) ≡ true
+      → within (drop 14 l) (drop 14 h) (drop 14 s) ≡ within l h s
   at-end long-s e = by-test (within (drop 14 l) (drop 14 h) (drop 14 s)) refl
     where
       start : within (take 14 l) (take 14 h) (take 14 s) ≡ true

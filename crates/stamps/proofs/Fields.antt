@@ -7,9 +7,9 @@ use native.Mathlib.Nat.{zero-add}
 use lib.Dec.{lit<}
 use lib.ListN.{length, take, drop, replicate, length-replicate}
 use Rattle.refusals.specs.Outcome.{answered, refused}
-use Rattle.digits.specs.Decimal.{isDigit, allDigits, valueOf, inDigits}
-use Rattle.digits.proofs.WayBack.{first-half, second-half, value-below, digits-of-value}
-use Rattle.stamps.specs.Form.{Fits, field, fieldsAt, first, last, stampRead, within}
+use Rattle.words.specs.Decimal.{isDigit, allDigits, valueOf, inDigits}
+use Rattle.words.proofs.WayBack.{first-half, second-half, value-below, digits-of-value}
+use Rattle.stamps.specs.Form.{Fits, fieldsAt, first, last, stampRead, within}
 use Rattle.stamps.proofs.Between.{as-long, rest-within, start-within}
 
 -- digits lie between zeros and nines
@@ -21,11 +21,13 @@ digits-between (suc k) (b ∷ s) e =
     let rest = digits-between k s (second-half (isDigit b) (within (replicate k 48) (replicate k 57) s) e) in
     rw (first-half (isDigit b) (within (replicate k 48) (replicate k 57) s) e) rest
 
-pub between-digits : (s : List ℕ) → allDigits s ≡ true → within (replicate (length s) 48) (replicate (length s) 57) s ≡ true
+pub between-digits : (s : List ℕ) → allDigits s ≡ true
+    → within (replicate (length s) 48) (replicate (length s) 57) s ≡ true
 between-digits [] e = refl
-between-digits (b ∷ s) e = rw (first-half (isDigit b) (allDigits s) e) (between-digits s (second-half (isDigit b) (allDigits s) e))
+between-digits (b ∷ s) e =
+    rw (first-half (isDigit b) (allDigits s) e) (between-digits s (second-half (isDigit b) (allDigits s) e))
 
--- a field of k digits at a place, with the mark behind it
+-- a field of k digits at a place, with the mark after it
 module _ (s : List ℕ) (formed : within first last s ≡ true) where
   pub long : length s ≡ 30
   long = as-long first last s formed

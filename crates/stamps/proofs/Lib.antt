@@ -1,5 +1,6 @@
 pub mod Between
 pub mod Fields
 pub mod WayBack
+pub mod Years
 pub mod Tells
 pub mod Calls

@@ -7,14 +7,14 @@ use native.Mathlib.Omega.{arith}
 use borrow.Author.Tests.{le-leb, leb-true}
 use lib.Dec.{leb}
 use lib.IntN.{pos, natAbs}
-use lib.ListN.{length, take, drop, replicate, length-replicate, take-append-drop, drop-of-length-le}
+use lib.ListN.{take, drop, replicate, length-replicate, take-append-drop, drop-of-length-le}
 use lib.Seq.{drop-drop}
 use Rattle.refusals.specs.Outcome.{answered}
 use Rattle.civil.specs.Fields.{fields}
 use Rattle.civil.specs.declared.CivilDateTime.{CivilDateTime}
-use Rattle.digits.specs.Decimal.{valueOf, inDigits}
-use Rattle.digits.proofs.Writing.{digits-length}
-use Rattle.digits.proofs.WayBack.{first-half, second-half, value-of-digits, digits-are-digits}
+use Rattle.words.specs.Decimal.{valueOf, inDigits}
+use Rattle.words.proofs.Writing.{digits-length}
+use Rattle.words.proofs.WayBack.{first-half, second-half, value-of-digits, digits-are-digits}
 use Rattle.stamps.specs.Form.{Fits, field, fieldsAt, first, last, stampRead, within, written}
 use Rattle.stamps.proofs.Between.{rest-within, join}
 use Rattle.stamps.proofs.Fields.{between-digits, long, same-digits, read-as}
@@ -65,8 +65,10 @@ the-mark mark l h (b ∷ s) e =
 
 module _ (s : List ℕ) (formed : within first last s ≡ true) where
   -- the bytes from a field on are its number in digits, its mark, and the rest
-  piece : (k at mark : ℕ) (l h : List ℕ) → take k (drop at first) ≡ replicate k 48 → take k (drop at last) ≡ replicate k 57
-      → drop (at + k) first ≡ mark ∷ l → drop (at + k) last ≡ mark ∷ h → drop at s ≡ field k (valueOf (take k (drop at s))) mark ++ drop (at + k + 1) s
+  piece : (k at mark : ℕ) (l h : List ℕ) → take k (drop at first) ≡ replicate k 48
+      → take k (drop at last) ≡ replicate k 57
+      → drop (at + k) first ≡ mark ∷ l → drop (at + k) last ≡ mark ∷ h
+      → drop at s ≡ field k (valueOf (take k (drop at s))) mark ++ drop (at + k + 1) s
   piece k at mark l h zeros nines low high =
       let rest = drop (at + k) s in
       let marked : rest ≡ mark ∷ drop (at + k + 1) s = the-mark mark l h rest (rw (low, high) at (rest-within (at + k) first last s formed)) ∙ ap (λ (t : List ℕ). mark ∷ t) (drop-drop 1 (at + k) s) in

@@ -10,7 +10,7 @@ use Rattle.refusals.specs.Number.{numberOf}
 use Rattle.refusals.specs.Outcome.{Outcome, answered, refused}
 use Rattle.civil.specs.Fields.{fields}
 use Rattle.civil.specs.declared.CivilDateTime.{CivilDateTime}
-use Rattle.digits.specs.Decimal.{valueOf, inDigits}
+use Rattle.words.specs.Decimal.{valueOf, inDigits}
 use Rattle.stamps.specs.declared.StampAnswer.{StampAnswer}
 use Rattle.stamps.specs.declared.StampAnswer.the-variants as answer
 
@@ -18,7 +18,7 @@ abbrev pub stampIn : StampAnswer → Outcome CivilDateTime
 stampIn (answer.Fields f) = answered f
 stampIn (answer.Refused r) = refused (numberOf r)
 
--- a number in k digits, and the mark behind it
+-- a number in k digits, and the mark after it
 abbrev pub field : ℕ → ℕ → ℕ → List ℕ
 field k n mark = inDigits k n ++ (mark ∷ [])
 

@@ -8,19 +8,19 @@ ghost use lib.ListN.{length};
 ghost use lib.Seq.{sets};
 ghost use Rattle.stamps.specs.Form.{Fits, field, fieldsAt, first, last, within, written};
 use civil::CivilDateTime;
-use digits::inner::field;
-use digits::inner::put_four;
-use digits::inner::put_nine;
-use digits::inner::put_two;
+use words::inner::digits::field;
+use words::inner::digits::put_four;
+use words::inner::digits::put_nine;
+use words::inner::digits::put_two;
 
-// Whether a byte lies from one byte up to another.
+// Whether a byte is in the range from one byte to another.
 fn between(low: u8, b: u8, high: u8) -> bool
     ensures { λ r. ⌜ r ≡ (leb low b && leb b high) ⌝ }
 {
     (low <= b) & (b <= high)
 }
 
-// Whether each byte lies from the one in `low` up to the one in `high`. All are tested, so that there is no branch.
+// Whether each byte is in the range from the one in `low` to the one in `high`. All are tested, so that there is no branch.
 fn each_within(low: &[u8], high: &[u8], s: &[u8]) -> bool
     requires { ⌜ length (now low) ≡ length (now s) ⌝ }
     requires { ⌜ length (now high) ≡ length (now s) ⌝ }

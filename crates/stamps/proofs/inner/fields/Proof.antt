@@ -1,4 +1,4 @@
--- `fields` meets its contract: each field is the value of its bytes.
+-- `fields`: each field is the value of its bytes.
 use mathlib.Core.Path.{_≡_, refl, ap, _∙_}
 use mathlib.Core.Bool.{true}
 use Prim.Native.Nat.{ℕ, _<_, _^_}
@@ -10,58 +10,40 @@ use mir.Syntax.{w32}
 use mir.Val.{toZ}
 use lib.ListN.{take, drop, replicate}
 use Rattle.civil.specs.Fields.{fields as civil}
-use Rattle.digits.specs.Decimal.{allDigits, valueOf}
+use Rattle.words.specs.Decimal.{allDigits, valueOf}
 use Rattle.stamps.specs.Form.{first, last}
 use Rattle.stamps.proofs.Fields.{all-digits}
-use Rattle.stamps.proofs.inner.fields.Statement.{statement}
-use Rattle.stamps.proofs.inner.fields.Tie as tie
+use Rattle.stamps.proofs.inner.fields as call
 
-digits-at : (c : tie.Start) (k at : ℕ) → take k (drop at first) ≡ replicate k 48 → take k (drop at last) ≡ replicate k 57 → allDigits (take k (drop at (now (c .args .s)))) ≡ true
+digits-at : (c : call.Tie.Start) (k at : ℕ) → take k (drop at first) ≡ replicate k 48
+    → take k (drop at last) ≡ replicate k 57 → allDigits (take k (drop at (now (c .args .s)))) ≡ true
 digits-at c k at zeros nines = all-digits (now (c .args .s)) (c .pre .1 .1) k at zeros nines
 
-field-requires : tie.Need-field-requires
+field-requires : call.Tie.Need-field-requires
 field-requires c κs = (omega arith, (omega arith, digits-at (c .before) 4 0 refl refl))
 
-cast-t3 : tie.Need-cast-t3
-cast-t3 c = search needs
-
-field-requires-2 : tie.Need-field-requires-2
+field-requires-2 : call.Tie.Need-field-requires-2
 field-requires-2 c κs = (omega arith, (omega arith, digits-at (c .before .before) 2 5 refl refl))
 
-cast-t5 : tie.Need-cast-t5
-cast-t5 c = search needs
-
-field-requires-3 : tie.Need-field-requires-3
+field-requires-3 : call.Tie.Need-field-requires-3
 field-requires-3 c κs = (omega arith, (omega arith, digits-at (c .before .before .before) 2 8 refl refl))
 
-cast-t7 : tie.Need-cast-t7
-cast-t7 c = search needs
-
-field-requires-4 : tie.Need-field-requires-4
+field-requires-4 : call.Tie.Need-field-requires-4
 field-requires-4 c κs = (omega arith, (omega arith, digits-at (c .before .before .before .before) 2 11 refl refl))
 
-cast-t9 : tie.Need-cast-t9
-cast-t9 c = search needs
+field-requires-5 : call.Tie.Need-field-requires-5
+field-requires-5 c κs =
+    (omega arith, (omega arith, digits-at (c .before .before .before .before .before) 2 14 refl refl))
 
-field-requires-5 : tie.Need-field-requires-5
-field-requires-5 c κs = (omega arith, (omega arith, digits-at (c .before .before .before .before .before) 2 14 refl refl))
+field-requires-6 : call.Tie.Need-field-requires-6
+field-requires-6 c κs =
+    (omega arith, (omega arith, digits-at (c .before .before .before .before .before .before) 2 17 refl refl))
 
-cast-t11 : tie.Need-cast-t11
-cast-t11 c = search needs
+field-requires-7 : call.Tie.Need-field-requires-7
+field-requires-7 c κs =
+    (omega arith, (omega arith, digits-at (c .before .before .before .before .before .before .before) 9 20 refl refl))
 
-field-requires-6 : tie.Need-field-requires-6
-field-requires-6 c κs = (omega arith, (omega arith, digits-at (c .before .before .before .before .before .before) 2 17 refl refl))
-
-cast-t13 : tie.Need-cast-t13
-cast-t13 c = search needs
-
-field-requires-7 : tie.Need-field-requires-7
-field-requires-7 c κs = (omega arith, (omega arith, digits-at (c .before .before .before .before .before .before .before) 9 20 refl refl))
-
-cast-t15 : tie.Need-cast-t15
-cast-t15 c = search needs
-
-returns : tie.Need-returns
+returns : call.Tie.Need-returns
 returns c =
     let start = c .before .before .before .before .before .before .before .before in
     let few : valueOf (take 4 (now (start .args .s))) < 2 ^ 31 = omega (arith, start .pre .1 .0 .year) in
@@ -73,22 +55,22 @@ returns c =
     let second = c .before .field6 .ensures in
     λ i. civil (year i) (month i) (day i) (hour i) (minute i) (second i) (c .field7 .ensures i)
 
-pub fields-spec : {M : Type 1} → statement M
+pub fields-spec : {M : Type 1} → call.Statement.statement M
 fields-spec =
-    tie.close
-    (tie.spec
+    call.Tie.close
+    (call.Tie.spec
     field-requires
-    cast-t3
+    (λ c. search needs)
     field-requires-2
-    cast-t5
+    (λ c. search needs)
     field-requires-3
-    cast-t7
+    (λ c. search needs)
     field-requires-4
-    cast-t9
+    (λ c. search needs)
     field-requires-5
-    cast-t11
+    (λ c. search needs)
     field-requires-6
-    cast-t13
+    (λ c. search needs)
     field-requires-7
-    cast-t15
+    (λ c. search needs)
     returns)

@@ -1,4 +1,4 @@
--- `put` meets its contract: seven fields, each from where the one before ends.
+-- `put`: seven fields, each from where the one before ends.
 use mathlib.Core.Path.{_≡_, refl, sym, ap, subst, _∙_}
 use mathlib.Core.List.{_++_}
 use Prim.Native.Nat.{_+_, _<_, _^_}
@@ -10,63 +10,23 @@ use lib.Seq.{sets}
 use mir.Facts.{toZ-ofZ}
 use mir.Syntax.{w32}
 use mir.Val.{SFits, toZ, ofZ}
-use Rattle.digits.proofs.Stores.{joined}
+use Rattle.words.proofs.Stores.{joined}
 use Rattle.stamps.specs.Form.{field}
-use Rattle.stamps.proofs.inner.put.Statement.{statement}
-use Rattle.stamps.proofs.inner.put.Tie as tie
+use Rattle.stamps.proofs.inner.put as call
 
 -- the year as the machine has it
-read : (s : tie.Start) → toZ w32 (ofZ w32 (s .args .f .year)) ≡ s .args .f .year
+read : (s : call.Tie.Start) → toZ w32 (ofZ w32 (s .args .f .year)) ≡ s .args .f .year
 read s =
     let f = s .pre .1 in
     toZ-ofZ (subst (SFits w32) (sym (f .natural)) (record { sfits = omega (arith, f .year) }))
 
-put-year-and-requires : tie.Need-put-year-and-requires
+put-year-and-requires : call.Tie.Need-put-year-and-requires
 put-year-and-requires c κs =
     let s = c .before .before .before in
     let f = s .pre .1 in
     (subst (λ (z : ℤ). z ≡ pos (natAbs z)) (sym (read s)) (f .natural), (subst (λ (z : ℤ). natAbs z < 10 ^ 4) (sym (read s)) (f .year), omega arith))
 
-add-put-two-and : tie.Need-add-put-two-and
-add-put-two-and c = search needs
-
-put-two-and-requires : tie.Need-put-two-and-requires
-put-two-and-requires c κs = search needs
-
-add-put-two-and-2 : tie.Need-add-put-two-and-2
-add-put-two-and-2 c = search needs
-
-put-two-and-requires-2 : tie.Need-put-two-and-requires-2
-put-two-and-requires-2 c κs = search needs
-
-add-put-two-and-3 : tie.Need-add-put-two-and-3
-add-put-two-and-3 c = search needs
-
-put-two-and-requires-3 : tie.Need-put-two-and-requires-3
-put-two-and-requires-3 c κs = search needs
-
-add-put-two-and-4 : tie.Need-add-put-two-and-4
-add-put-two-and-4 c = search needs
-
-put-two-and-requires-4 : tie.Need-put-two-and-requires-4
-put-two-and-requires-4 c κs = search needs
-
-add-put-two-and-5 : tie.Need-add-put-two-and-5
-add-put-two-and-5 c = search needs
-
-put-two-and-requires-5 : tie.Need-put-two-and-requires-5
-put-two-and-requires-5 c κs = search needs
-
-add-put-nine-and : tie.Need-add-put-nine-and
-add-put-nine-and c = search needs
-
-put-nine-and-requires : tie.Need-put-nine-and-requires
-put-nine-and-requires c κs = search needs
-
-same-length : tie.Need-same-length
-same-length c = search needs
-
-returns : tie.Need-returns
+returns : call.Tie.Need-returns
 returns c =
     let p7 = c .before .before in
     let p6 = p7 .before .before .before .before in
@@ -92,22 +52,22 @@ returns c =
     let after-second = joined out at (at + 17) time₂ (field 2 (a .f .second) 46) after-minute refl (p6 .put-two-and5 .ensures) in
     joined out at (at + 20) time₃ (field 9 (a .f .nanos) 90) after-second refl (p7 .put-nine-and .ensures)
 
-pub put-spec : {M : Type 1} → statement M
+pub put-spec : {M : Type 1} → call.Statement.statement M
 put-spec =
-    tie.close
-    (tie.spec
+    call.Tie.close
+    (call.Tie.spec
     put-year-and-requires
-    add-put-two-and
-    put-two-and-requires
-    add-put-two-and-2
-    put-two-and-requires-2
-    add-put-two-and-3
-    put-two-and-requires-3
-    add-put-two-and-4
-    put-two-and-requires-4
-    add-put-two-and-5
-    put-two-and-requires-5
-    add-put-nine-and
-    put-nine-and-requires
-    same-length
+    (λ c. search needs)
+    (λ c κs. search needs)
+    (λ c. search needs)
+    (λ c κs. search needs)
+    (λ c. search needs)
+    (λ c κs. search needs)
+    (λ c. search needs)
+    (λ c κs. search needs)
+    (λ c. search needs)
+    (λ c κs. search needs)
+    (λ c. search needs)
+    (λ c κs. search needs)
+    (λ c. search needs)
     returns)

@@ -13,41 +13,37 @@ use lib.Signed.{nonNeg}
 use mir.Facts.{toZ-ofZ}
 use mir.Syntax.{w32}
 use mir.Val.{Fits, toZ, ofZ}
-use Rattle.digits.specs.Decimal.{inDigits}
-use Rattle.digits.proofs.Stores.{sets-sets}
-use Rattle.stamps.proofs.inner.put_year_and.Statement.{statement}
-use Rattle.stamps.proofs.inner.put_year_and.Tie as tie
+use Rattle.words.specs.Decimal.{inDigits}
+use Rattle.words.proofs.Stores.{sets-sets}
+use Rattle.stamps.proofs.inner.put_year_and as call
 
 -- the year as the machine has it
-read : (s : tie.Start) → toZ w32 (ofZ w32 (s .args .year)) ≡ pos (natAbs (s .args .year))
+read : (s : call.Tie.Start) → toZ w32 (ofZ w32 (s .args .year)) ≡ pos (natAbs (s .args .year))
 read s = toZ-ofZ (s .fits .year) ∙ s .pre .0
 
-cast-put-four : tie.Need-cast-put-four
+cast-put-four : call.Tie.Need-cast-put-four
 cast-put-four c =
     let s = c .before .before in
-    subst (λ (z : ℤ). T (nonNeg z) × Fits w32 (natAbs z)) (sym (read s)) (tt, record { fits = omega (arith, s .pre .1 .0) })
+    subst (λ (z : ℤ). T (nonNeg z) × Fits w32 (natAbs z)) (sym (read s)) (
+      tt,
+      record {
+        fits =
+            omega (arith, s .pre .1 .0);
+      },
+    )
 
-put-four-requires : tie.Need-put-four-requires
+put-four-requires : call.Tie.Need-put-four-requires
 put-four-requires c κs =
     let s = c .before .before in
     (subst (λ (z : ℤ). natAbs z < 10 ^ 4) (sym (read s)) (s .pre .1 .0), omega arith)
 
-add-out : tie.Need-add-out
-add-out c = search needs
-
-slice-write-out : tie.Need-slice-write-out
-slice-write-out c = search needs
-
-same-length : tie.Need-same-length
-same-length c = search needs
-
-returns : tie.Need-returns
+returns : call.Tie.Need-returns
 returns c =
     let put = c .before .before in
     let a = put .before .before .before .args in
     ap (λ (l : List ℕ). set l (a .at + 4) (a .mark)) (put .put-four .ensures ∙ ap (λ (z : ℤ). sets (now (a .out)) (a .at) (inDigits 4 (natAbs z))) (read (put .before .before .before)))
     ∙ sets-sets (inDigits 4 (natAbs (a .year))) (a .mark ∷ []) (now (a .out)) (a .at)
 
-pub put-year-and-spec : {M : Type 1} → statement M
+pub put-year-and-spec : {M : Type 1} → call.Statement.statement M
 put-year-and-spec =
-    tie.close (tie.spec cast-put-four put-four-requires add-out slice-write-out same-length returns)
+    call.Tie.close (call.Tie.spec cast-put-four put-four-requires (λ c. search needs) (λ c. search needs) (λ c. search needs) returns)

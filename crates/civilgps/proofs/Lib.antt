@@ -1,0 +1,3 @@
+pub mod WholeInput
+pub mod ReadBack
+pub mod Calls

@@ -1,0 +1,2 @@
+pub mod WholeInput
+pub mod Calls

@@ -1,0 +1,38 @@
+-- What gpscivil writes for a whole input is the answers to its lines, wherever it is cut.
+use mathlib.Core.Path.{_≡_, ap}
+use mathlib.Core.Bool.{and-false}
+use mathlib.Core.List.{List}
+use Prim.Native.Nat.{ℕ, _≤_, _<_}
+use native.Mathlib.Omega.{arith}
+use borrow.Author.Tests.{lt-leb}
+use lib.Dec.{ltb}
+use lib.ListN.{length}
+use Rattle.refusals.specs.Outcome.{Outcome, refused, changed}
+use Rattle.lines.specs.OutcomeLine.{lineOf}
+use Rattle.lines.proofs.OutcomeLines.{line-short}
+use Rattle.lines.proofs.WholeInput as law
+use Rattle.gpscivil.specs.Answer.{utcOfLine, civilOf, answerTo}
+
+-- ---- the statement
+abbrev pub GpscivilCutAnywhere : Type 0
+GpscivilCutAnywhere = law.CutAnywhere answerTo
+
+-- ---- its proof
+-- a count has at most 20 digits
+too-long : (l : List ℕ) → 127 < length l → utcOfLine l ≡ refused 10
+unfolding utcOfLine
+too-long l h = rw (lt-leb (length l) 20 (omega arith), and-false (ltb 0 (length l)))
+
+-- the form has 30 bytes
+form-short : (utc : ℕ) → length (civilOf utc) ≤ 30
+unfolding civilOf
+form-short utc = omega arith
+
+pub answers-lines : law.AnswersLines 31 answerTo
+answers-lines = record {
+  short = λ l. line-short civilOf form-short (utcOfLine l);
+  first-128 = law.alike (λ l h. ap (λ (o : Outcome ℕ). lineOf (changed civilOf o)) (too-long l h));
+}
+
+pub cut-anywhere : GpscivilCutAnywhere
+cut-anywhere = law.cut-anywhere answerTo answers-lines

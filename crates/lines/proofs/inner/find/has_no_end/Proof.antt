@@ -1,0 +1,43 @@
+-- `has_no_end`. The invariant: no byte ends a line where none before `i` does, and none from `i` on.
+use mathlib.Core.Path.{_≡_, refl, sym, ap, _∙_}
+use mathlib.Core.Bool.{Bool, not, _&&_, and-true, and-assoc}
+use Prim.Native.Nat.{_+_, _-_, _≤_}
+use native.Mathlib.Omega.{arith}
+use borrow.Author.Needs.{needs}
+use denote.Ref.{now}
+use lib.Dec.{eqb}
+use lib.ListN.{length, getD, drop, drop-of-length-le}
+use Rattle.lines.specs.Pieces.{hasNoEnd}
+use Rattle.lines.proofs.LineEnds.{opened}
+use Rattle.lines.proofs.inner.find.has_no_end as call
+
+abbrev Inv-loop : call.Tie.InvT-loop
+Inv-loop s none₀ i₀ none i = (hasNoEnd s ≡ (none && hasNoEnd (drop i s))) × (i ≤ length s)
+
+abbrev μ-loop : call.Tie.MeasureT-loop
+μ-loop s none₀ i₀ none i = length s - i
+
+loop-again : call.Tie.Need-loop-again Inv-loop μ-loop
+loop-again c =
+    let at = c .before .before in
+    let s = now (at .before .args .s) in
+    let i = at .loop .i in (
+      at .loop .inv .0
+          ∙ ap (λ (t : Bool). at .loop .none && t) (opened s i (omega arith))
+          ∙ sym (and-assoc (at .loop .none) (not (eqb (getD s i 0) 10)) (hasNoEnd (drop (i + 1) s))),
+      omega arith,
+    )
+
+returns : call.Tie.Need-returns Inv-loop μ-loop
+returns c =
+    let at = c .before in
+    sym (at .loop .inv .0 ∙ rw (
+      drop-of-length-le (now (at .before .args .s)) {i =
+          at .loop .i} (omega arith),
+      and-true (at .loop .none),
+    ))
+
+-- loop-holds, shared-slice-read-none, add-i, loop-less, loop-again, returns
+pub has-no-end-spec : {M : Type 1} → call.Statement.statement M
+has-no-end-spec =
+    call.Tie.close (call.Tie.spec Inv-loop μ-loop (λ c. (refl, omega arith)) (λ c. search needs) (λ c. search needs) (λ c. search needs) loop-again returns)

@@ -1,0 +1,16 @@
+-- Where a run stands, in a block of n bytes.
+use Prim.Native.Nat.{ℕ, _≤_}
+use Rattle.lines.specs.declared.inner.streams.Place.{Place}
+use Rattle.lines.specs.declared.inner.streams.Progress.{Progress}
+use Rattle.lines.specs.declared.inner.streams.Progress.the-variants.{At, Ended, CannotRead, CannotWrite}
+
+pub record Within (n : ℕ) (p : Place) : Type 0 where
+  pub held : p .used ≤ 128
+  pub order : p .at ≤ p .end
+  pub inside : p .end ≤ n
+
+abbrev pub Stands : ℕ → Progress → Type 0
+Stands n (At p) = Within n p
+Stands n Ended = Unit {0}
+Stands n CannotRead = Unit {0}
+Stands n CannotWrite = Unit {0}
