@@ -1,3 +1,4 @@
+-- Written by tools/write-scales from its template in tools/templates.
 -- What an answer says in plain values tells which answer it is; and so does the number in a count.
 use mathlib.Core.Path.{_≡_, ap}
 use Prim.Native.Nat.{ℕ}
@@ -21,50 +22,34 @@ pub gps-count-tells : (x y : Gps) → x .0 ≡ y .0 → x ≡ y
 gps-count-tells x y e = ap (λ (n : ℕ). record { 0 = n }) e
 
 pub gps-tells : (x y : GpsAnswer) → gpsIn x ≡ gpsIn y → x ≡ y
-gps-tells (gps.Count s) (gps.Count t) e =
-    let same : s .0 ≡ t .0 = cc in
-    ap gps.Count (gps-count-tells s t same)
+gps-tells (gps.Count s) (gps.Count t) e = ap gps.Count (gps-count-tells s t (cc))
 gps-tells (gps.Count s) (gps.Refused r) e = cc
 gps-tells (gps.Refused r) (gps.Count t) e = cc
-gps-tells (gps.Refused q) (gps.Refused r) e =
-    let same : numberOf q ≡ numberOf r = cc in
-    ap gps.Refused (number-tells q r same)
+gps-tells (gps.Refused q) (gps.Refused r) e = ap gps.Refused (number-tells q r (cc))
 
 pub utc-count-tells : (x y : Utc) → x .0 ≡ y .0 → x ≡ y
 utc-count-tells x y e = ap (λ (n : ℕ). record { 0 = n }) e
 
 pub utc-tells : (x y : UtcAnswer) → utcIn x ≡ utcIn y → x ≡ y
-utc-tells (utc.Count s) (utc.Count t) e =
-    let same : s .0 ≡ t .0 = cc in
-    ap utc.Count (utc-count-tells s t same)
+utc-tells (utc.Count s) (utc.Count t) e = ap utc.Count (utc-count-tells s t (cc))
 utc-tells (utc.Count s) (utc.Refused r) e = cc
 utc-tells (utc.Refused r) (utc.Count t) e = cc
-utc-tells (utc.Refused q) (utc.Refused r) e =
-    let same : numberOf q ≡ numberOf r = cc in
-    ap utc.Refused (number-tells q r same)
+utc-tells (utc.Refused q) (utc.Refused r) e = ap utc.Refused (number-tells q r (cc))
 
 pub glonass-count-tells : (x y : Glonass) → x .0 ≡ y .0 → x ≡ y
 glonass-count-tells x y e = ap (λ (n : ℕ). record { 0 = n }) e
 
 pub glonass-tells : (x y : GlonassAnswer) → glonassIn x ≡ glonassIn y → x ≡ y
-glonass-tells (glonass.Count s) (glonass.Count t) e =
-    let same : s .0 ≡ t .0 = cc in
-    ap glonass.Count (glonass-count-tells s t same)
+glonass-tells (glonass.Count s) (glonass.Count t) e = ap glonass.Count (glonass-count-tells s t (cc))
 glonass-tells (glonass.Count s) (glonass.Refused r) e = cc
 glonass-tells (glonass.Refused r) (glonass.Count t) e = cc
-glonass-tells (glonass.Refused q) (glonass.Refused r) e =
-    let same : numberOf q ≡ numberOf r = cc in
-    ap glonass.Refused (number-tells q r same)
+glonass-tells (glonass.Refused q) (glonass.Refused r) e = ap glonass.Refused (number-tells q r (cc))
 
 pub tai-count-tells : (x y : Tai) → x .0 ≡ y .0 → x ≡ y
 tai-count-tells x y e = ap (λ (n : ℕ). record { 0 = n }) e
 
 pub tai-tells : (x y : TaiAnswer) → taiIn x ≡ taiIn y → x ≡ y
-tai-tells (tai.Count s) (tai.Count t) e =
-    let same : s .0 ≡ t .0 = cc in
-    ap tai.Count (tai-count-tells s t same)
+tai-tells (tai.Count s) (tai.Count t) e = ap tai.Count (tai-count-tells s t (cc))
 tai-tells (tai.Count s) (tai.Refused r) e = cc
 tai-tells (tai.Refused r) (tai.Count t) e = cc
-tai-tells (tai.Refused q) (tai.Refused r) e =
-    let same : numberOf q ≡ numberOf r = cc in
-    ap tai.Refused (number-tells q r same)
+tai-tells (tai.Refused q) (tai.Refused r) e = ap tai.Refused (number-tells q r (cc))

@@ -1,3 +1,4 @@
+-- Written by tools/write-scales from its template in tools/templates.
 -- What an answer on each scale says in plain values.
 use Prim.Native.Nat.{ℕ}
 use Rattle.refusals.specs.Number.{numberOf}

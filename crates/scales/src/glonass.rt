@@ -1,13 +1,12 @@
+// Written by tools/write-scales from its template in tools/templates.
 // GLONASS time: nanoseconds since 1996-01-01 in Moscow, which is UTC and three hours.
 ghost use mathlib.Core.Path.{_≡_};
-ghost use Prim.Native.Nat.{_*_, _/_, _%_};
+ghost use Prim.Native.Nat.{_*_, _/_};
 ghost use lib.IntN.{pos, _+ℤ_, _-ℤ_};
 ghost use Rattle.counts.specs.Exact.{countOf, durationOf, nearestCount};
-ghost use Rattle.counts.specs.Units.{second, daySeconds, partsOf, ofUnits};
+ghost use Rattle.counts.specs.Units.{second, partsOf};
 ghost use Rattle.counts.specs.Answers.{countIn, durationIn};
-ghost use lib.Dec.{leb};
 ghost use Rattle.scales.specs.Answers.{glonassIn};
-ghost use Rattle.scales.specs.Scales.{weekdayOf};
 use counts::CountAnswer;
 use counts::Duration;
 use counts::DurationAnswer;
@@ -15,10 +14,6 @@ use counts::sums;
 use counts::units;
 use counts::units::DurationParts;
 use refusals::Refusal;
-
-const SECONDS_PER_DAY: u32 = 86_400;
-
-const NANOS_PER_DAY: u64 = SECONDS_PER_DAY as u64 * units::NANOS_PER_SECOND;
 
 pub struct Glonass(pub u64);
 
@@ -74,7 +69,7 @@ impl Glonass {
         self.0 / units::NANOS_PER_SECOND
     }
 
-    // Whole seconds and the nanoseconds beside them.
+    // Whole seconds, and the nanoseconds left.
     pub fn as_parts(self) -> DurationParts
         ensures { λ r. ⌜ r ≡ partsOf (self .0) ⌝ }
     {
@@ -97,14 +92,14 @@ impl Glonass {
     pub fn saturating_add(self, d: Duration) -> Glonass
         ensures { λ r. ⌜ r .0 ≡ nearestCount (pos (self .0) +ℤ d .0) ⌝ }
     {
-        Glonass(sums::later_to_limit(self.0, d))
+        Glonass(sums::saturating_later(self.0, d))
     }
 
     // Stops at the first and the last count.
     pub fn saturating_sub_duration(self, d: Duration) -> Glonass
         ensures { λ r. ⌜ r .0 ≡ nearestCount (pos (self .0) -ℤ d .0) ⌝ }
     {
-        Glonass(sums::earlier_to_limit(self.0, d))
+        Glonass(sums::saturating_earlier(self.0, d))
     }
 
     // The duration since an earlier count, or, with a minus sign, to a later one.
@@ -112,45 +107,5 @@ impl Glonass {
         ensures { λ r. ⌜ durationIn r ≡ durationOf (pos (self .0) -ℤ pos (earlier .0)) ⌝ }
     {
         sums::elapsed(self.0, earlier.0)
-    }
-
-    // Whole days and the time of the day.
-    pub fn from_day_tod(day: u32, tod: DurationParts) -> GlonassAnswer
-        ensures { λ r. ⌜ glonassIn r ≡ ofUnits daySeconds day (tod .seconds) (tod .nanos) ⌝ }
-    {
-        GlonassAnswer::of(units::of_units(SECONDS_PER_DAY, day, tod))
-    }
-
-    pub fn day(self) -> u32
-        ensures { λ r. ⌜ r ≡ self .0 / (daySeconds * second) ⌝ }
-    {
-        (self.0 / NANOS_PER_DAY) as u32
-    }
-
-    // Whole seconds of the day.
-    pub fn tod_seconds(self) -> u32
-        ensures { λ r. ⌜ r ≡ self .0 % (daySeconds * second) / second ⌝ }
-    {
-        (self.0 % NANOS_PER_DAY / units::NANOS_PER_SECOND) as u32
-    }
-
-    pub fn sub_second_nanos(self) -> u32
-        ensures { λ r. ⌜ r ≡ self .0 % second ⌝ }
-    {
-        (self.0 % units::NANOS_PER_SECOND) as u32
-    }
-
-    // Monday is 1, Sunday 7; day 0 is a Monday.
-    pub fn day_of_week(self) -> u8
-        ensures { λ r. ⌜ r ≡ weekdayOf (self .0) ⌝ }
-    {
-        (self.0 / NANOS_PER_DAY % 7) as u8 + 1
-    }
-
-    // Saturday and Sunday.
-    pub fn is_weekend(self) -> bool
-        ensures { λ r. ⌜ r ≡ leb 6 (weekdayOf (self .0)) ⌝ }
-    {
-        6 <= self.day_of_week()
     }
 }

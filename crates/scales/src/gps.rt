@@ -1,14 +1,12 @@
+// Written by tools/write-scales from its template in tools/templates.
 // GPS time: nanoseconds since 1980-01-06, with no leap seconds.
 ghost use mathlib.Core.Path.{_≡_};
-ghost use Prim.Native.Nat.{_+_, _*_, _/_, _%_};
+ghost use Prim.Native.Nat.{_*_, _/_};
 ghost use lib.IntN.{pos, _+ℤ_, _-ℤ_};
 ghost use Rattle.counts.specs.Exact.{countOf, durationOf, nearestCount};
-ghost use Rattle.counts.specs.Units.{second, weekSeconds, partsOf, ofUnits};
+ghost use Rattle.counts.specs.Units.{second, partsOf};
 ghost use Rattle.counts.specs.Answers.{countIn, durationIn};
-ghost use Rattle.scales.specs.Answers.{gpsIn, taiIn};
-ghost use Rattle.scales.specs.Scales.{taiMinusGps};
-use crate::tai::Tai;
-use crate::tai::TaiAnswer;
+ghost use Rattle.scales.specs.Answers.{gpsIn};
 use counts::CountAnswer;
 use counts::Duration;
 use counts::DurationAnswer;
@@ -16,12 +14,6 @@ use counts::sums;
 use counts::units;
 use counts::units::DurationParts;
 use refusals::Refusal;
-
-const SECONDS_PER_WEEK: u32 = 604_800;
-
-const NANOS_PER_WEEK: u64 = SECONDS_PER_WEEK as u64 * units::NANOS_PER_SECOND;
-
-const TAI_MINUS_GPS_NS: u64 = 19 * units::NANOS_PER_SECOND;
 
 pub struct Gps(pub u64);
 
@@ -77,7 +69,7 @@ impl Gps {
         self.0 / units::NANOS_PER_SECOND
     }
 
-    // Whole seconds and the nanoseconds beside them.
+    // Whole seconds, and the nanoseconds left.
     pub fn as_parts(self) -> DurationParts
         ensures { λ r. ⌜ r ≡ partsOf (self .0) ⌝ }
     {
@@ -100,14 +92,14 @@ impl Gps {
     pub fn saturating_add(self, d: Duration) -> Gps
         ensures { λ r. ⌜ r .0 ≡ nearestCount (pos (self .0) +ℤ d .0) ⌝ }
     {
-        Gps(sums::later_to_limit(self.0, d))
+        Gps(sums::saturating_later(self.0, d))
     }
 
     // Stops at the first and the last count.
     pub fn saturating_sub_duration(self, d: Duration) -> Gps
         ensures { λ r. ⌜ r .0 ≡ nearestCount (pos (self .0) -ℤ d .0) ⌝ }
     {
-        Gps(sums::earlier_to_limit(self.0, d))
+        Gps(sums::saturating_earlier(self.0, d))
     }
 
     // The duration since an earlier count, or, with a minus sign, to a later one.
@@ -115,43 +107,5 @@ impl Gps {
         ensures { λ r. ⌜ durationIn r ≡ durationOf (pos (self .0) -ℤ pos (earlier .0)) ⌝ }
     {
         sums::elapsed(self.0, earlier.0)
-    }
-
-    // Whole weeks and the time of the week.
-    pub fn from_week_tow(week: u32, tow: DurationParts) -> GpsAnswer
-        ensures { λ r. ⌜ gpsIn r ≡ ofUnits weekSeconds week (tow .seconds) (tow .nanos) ⌝ }
-    {
-        GpsAnswer::of(units::of_units(SECONDS_PER_WEEK, week, tow))
-    }
-
-    pub fn week(self) -> u32
-        ensures { λ r. ⌜ r ≡ self .0 / (weekSeconds * second) ⌝ }
-    {
-        (self.0 / NANOS_PER_WEEK) as u32
-    }
-
-    // Whole seconds of the week.
-    pub fn tow_seconds(self) -> u32
-        ensures { λ r. ⌜ r ≡ self .0 % (weekSeconds * second) / second ⌝ }
-    {
-        (self.0 % NANOS_PER_WEEK / units::NANOS_PER_SECOND) as u32
-    }
-
-    pub fn sub_second_nanos(self) -> u32
-        ensures { λ r. ⌜ r ≡ self .0 % second ⌝ }
-    {
-        (self.0 % units::NANOS_PER_SECOND) as u32
-    }
-
-    pub fn to_tai(self) -> TaiAnswer
-        ensures { λ r. ⌜ taiIn r ≡ countOf (pos (self .0 + taiMinusGps)) ⌝ }
-    {
-        TaiAnswer::of(sums::plus(self.0, TAI_MINUS_GPS_NS))
-    }
-
-    pub fn from_tai(tai: Tai) -> GpsAnswer
-        ensures { λ r. ⌜ gpsIn r ≡ countOf (pos (tai .0) -ℤ pos taiMinusGps) ⌝ }
-    {
-        GpsAnswer::of(sums::minus(tai.0, TAI_MINUS_GPS_NS))
     }
 }

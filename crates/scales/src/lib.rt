@@ -1,7 +1,12 @@
 // The time scales of time.rs: GPS, UTC, GLONASS and TAI, each a count of nanoseconds since its epoch.
 // One tuple struct for each, so that a count of one scale is never taken where another is due.
 pub mod duration;
+// every scale, by tools/write-scales
 pub mod glonass;
 pub mod gps;
 pub mod tai;
 pub mod utc;
+// end of every scale
+pub mod glonass_days;
+pub mod gps_weeks;
+pub mod utc_unix;

@@ -1,3 +1,4 @@
+// Written by tools/write-scales from its template in tools/templates.
 // TAI as this core reads it: nanoseconds since 19 s before the GPS epoch, with no leap seconds.
 ghost use mathlib.Core.Path.{_≡_};
 ghost use Prim.Native.Nat.{_*_, _/_};
@@ -68,7 +69,7 @@ impl Tai {
         self.0 / units::NANOS_PER_SECOND
     }
 
-    // Whole seconds and the nanoseconds beside them.
+    // Whole seconds, and the nanoseconds left.
     pub fn as_parts(self) -> DurationParts
         ensures { λ r. ⌜ r ≡ partsOf (self .0) ⌝ }
     {
@@ -91,14 +92,14 @@ impl Tai {
     pub fn saturating_add(self, d: Duration) -> Tai
         ensures { λ r. ⌜ r .0 ≡ nearestCount (pos (self .0) +ℤ d .0) ⌝ }
     {
-        Tai(sums::later_to_limit(self.0, d))
+        Tai(sums::saturating_later(self.0, d))
     }
 
     // Stops at the first and the last count.
     pub fn saturating_sub_duration(self, d: Duration) -> Tai
         ensures { λ r. ⌜ r .0 ≡ nearestCount (pos (self .0) -ℤ d .0) ⌝ }
     {
-        Tai(sums::earlier_to_limit(self.0, d))
+        Tai(sums::saturating_earlier(self.0, d))
     }
 
     // The duration since an earlier count, or, with a minus sign, to a later one.

@@ -1,9 +1,10 @@
+// Written by tools/write-scales from its template in tools/templates.
 // UTC: nanoseconds since 1972-01-01, the inserted seconds not counted.
 ghost use mathlib.Core.Path.{_≡_};
-ghost use Prim.Native.Nat.{_+_, _*_, _/_, _-_, _^_, min};
-ghost use lib.IntN.{pos, _+ℤ_, _-ℤ_, _*ℤ_};
+ghost use Prim.Native.Nat.{_*_, _/_};
+ghost use lib.IntN.{pos, _+ℤ_, _-ℤ_};
 ghost use Rattle.counts.specs.Exact.{countOf, durationOf, nearestCount};
-ghost use Rattle.counts.specs.Units.{second, unixOffset, partsOf};
+ghost use Rattle.counts.specs.Units.{second, partsOf};
 ghost use Rattle.counts.specs.Answers.{countIn, durationIn};
 ghost use Rattle.scales.specs.Answers.{utcIn};
 use counts::CountAnswer;
@@ -12,7 +13,6 @@ use counts::DurationAnswer;
 use counts::sums;
 use counts::units;
 use counts::units::DurationParts;
-use counts::unix;
 use refusals::Refusal;
 
 pub struct Utc(pub u64);
@@ -69,7 +69,7 @@ impl Utc {
         self.0 / units::NANOS_PER_SECOND
     }
 
-    // Whole seconds and the nanoseconds beside them.
+    // Whole seconds, and the nanoseconds left.
     pub fn as_parts(self) -> DurationParts
         ensures { λ r. ⌜ r ≡ partsOf (self .0) ⌝ }
     {
@@ -92,14 +92,14 @@ impl Utc {
     pub fn saturating_add(self, d: Duration) -> Utc
         ensures { λ r. ⌜ r .0 ≡ nearestCount (pos (self .0) +ℤ d .0) ⌝ }
     {
-        Utc(sums::later_to_limit(self.0, d))
+        Utc(sums::saturating_later(self.0, d))
     }
 
     // Stops at the first and the last count.
     pub fn saturating_sub_duration(self, d: Duration) -> Utc
         ensures { λ r. ⌜ r .0 ≡ nearestCount (pos (self .0) -ℤ d .0) ⌝ }
     {
-        Utc(sums::earlier_to_limit(self.0, d))
+        Utc(sums::saturating_earlier(self.0, d))
     }
 
     // The duration since an earlier count, or, with a minus sign, to a later one.
@@ -107,30 +107,5 @@ impl Utc {
         ensures { λ r. ⌜ durationIn r ≡ durationOf (pos (self .0) -ℤ pos (earlier .0)) ⌝ }
     {
         sums::elapsed(self.0, earlier.0)
-    }
-
-    pub fn from_unix_seconds(seconds: i64) -> UtcAnswer
-        ensures { λ r. ⌜ utcIn r ≡ countOf ((seconds -ℤ pos unixOffset) *ℤ pos second) ⌝ }
-    {
-        UtcAnswer::of(unix::from_unix_seconds(seconds))
-    }
-
-    pub fn from_unix_nanos(nanos: i64) -> UtcAnswer
-        ensures { λ r. ⌜ utcIn r ≡ countOf (nanos -ℤ pos (unixOffset * second)) ⌝ }
-    {
-        UtcAnswer::of(unix::from_unix_nanos(nanos))
-    }
-
-    pub fn as_unix_seconds(self) -> i64
-        ensures { λ r. ⌜ r ≡ pos (self .0 / second + unixOffset) ⌝ }
-    {
-        unix::as_unix_seconds(self.0)
-    }
-
-    // Stops at the largest signed number.
-    pub fn as_unix_nanos(self) -> i64
-        ensures { λ r. ⌜ r ≡ pos (min (self .0 + unixOffset * second) (2 ^ 63 - 1)) ⌝ }
-    {
-        unix::as_unix_nanos(self.0)
     }
 }

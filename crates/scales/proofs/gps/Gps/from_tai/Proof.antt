@@ -1,17 +1,9 @@
--- `Gps::from_tai` meets its contract: the plain answer, on its scale.
+-- `Gps::from_tai`: `GpsAnswer::of` keeps the outcome of the plain call.
 use mathlib.Core.Path.{_∙_}
-use borrow.Author.Needs.{needs}
-use Rattle.scales.proofs.gps.Gps.from_tai.Statement.{statement}
-use Rattle.scales.proofs.gps.Gps.from_tai.Tie as tie
+use Rattle.scales.proofs.gps.Gps.from_tai as call
 
-minus-requires : tie.Need-minus-requires
-minus-requires c κs = search needs
-
-of-requires : tie.Need-of-requires
-of-requires c κs = search needs
-
-returns : tie.Need-returns
+returns : call.Tie.Need-returns
 returns c = c .of .ensures ∙ c .before .minus .ensures
 
-pub from-tai-spec : {M : Type 1} → statement M
-from-tai-spec = tie.close (tie.spec minus-requires of-requires returns)
+pub from-tai-spec : {M : Type 1} → call.Statement.statement M
+from-tai-spec = call.Tie.close (call.Tie.spec (λ c κs. search) (λ c κs. search) returns)

@@ -1,17 +1,9 @@
--- `Gps::from_week_tow` meets its contract: the plain answer, on its scale.
+-- `Gps::from_week_tow`: `GpsAnswer::of` keeps the outcome of the plain call.
 use mathlib.Core.Path.{_∙_}
-use borrow.Author.Needs.{needs}
-use Rattle.scales.proofs.gps.Gps.from_week_tow.Statement.{statement}
-use Rattle.scales.proofs.gps.Gps.from_week_tow.Tie as tie
+use Rattle.scales.proofs.gps.Gps.from_week_tow as call
 
-of-units-requires : tie.Need-of-units-requires
-of-units-requires c κs = search needs
-
-of-requires : tie.Need-of-requires
-of-requires c κs = search needs
-
-returns : tie.Need-returns
+returns : call.Tie.Need-returns
 returns c = c .of .ensures ∙ c .before .of-units .ensures
 
-pub from-week-tow-spec : {M : Type 1} → statement M
-from-week-tow-spec = tie.close (tie.spec of-units-requires of-requires returns)
+pub from-week-tow-spec : {M : Type 1} → call.Statement.statement M
+from-week-tow-spec = call.Tie.close (call.Tie.spec (λ c κs. search) (λ c κs. search) returns)

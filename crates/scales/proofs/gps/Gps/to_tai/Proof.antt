@@ -1,17 +1,9 @@
--- `Gps::to_tai` meets its contract: the plain answer, on its scale.
+-- `Gps::to_tai`: `TaiAnswer::of` keeps the outcome of the plain call.
 use mathlib.Core.Path.{_∙_}
-use borrow.Author.Needs.{needs}
-use Rattle.scales.proofs.gps.Gps.to_tai.Statement.{statement}
-use Rattle.scales.proofs.gps.Gps.to_tai.Tie as tie
+use Rattle.scales.proofs.gps.Gps.to_tai as call
 
-plus-requires : tie.Need-plus-requires
-plus-requires c κs = search needs
-
-of-requires : tie.Need-of-requires
-of-requires c κs = search needs
-
-returns : tie.Need-returns
+returns : call.Tie.Need-returns
 returns c = c .of .ensures ∙ c .before .plus .ensures
 
-pub to-tai-spec : {M : Type 1} → statement M
-to-tai-spec = tie.close (tie.spec plus-requires of-requires returns)
+pub to-tai-spec : {M : Type 1} → call.Statement.statement M
+to-tai-spec = call.Tie.close (call.Tie.spec (λ c κs. search) (λ c κs. search) returns)
