@@ -52,15 +52,17 @@ enum plaitgate_refusal {
     PLAITGATE_BAD_LINE = 10
 };
 
+/* every scale, by tools/write-scales */
+
 /* ---- GPS ---- */
 
-/* The GPS count of so many nanoseconds since the epoch: the same number. Does not refuse. */
+/* The GPS count of a number of nanoseconds since the epoch: the same number. Does not refuse. */
 uint32_t plaitgate_gps_from_nanos(uint64_t nanos, uint64_t *count);
 
 /* The nanoseconds of a GPS count since the epoch: the same number. Does not refuse. */
 uint32_t plaitgate_gps_as_nanos(uint64_t count, uint64_t *nanos);
 
-/* The GPS count of so many whole seconds since the epoch. Refuses by 1 above 18446744073 s. */
+/* The GPS count of a number of whole seconds since the epoch. Refuses with 1 above 18446744073 s. */
 uint32_t plaitgate_gps_checked_from_seconds(uint64_t seconds, uint64_t *count);
 
 /* The whole seconds of a GPS count since the epoch, rounded down. Does not refuse. */
@@ -69,12 +71,12 @@ uint32_t plaitgate_gps_as_seconds(uint64_t count, uint64_t *seconds);
 /* The whole seconds of a GPS count and the nanoseconds left, 0 to 999999999. Does not refuse. */
 uint32_t plaitgate_gps_as_parts(uint64_t count, uint64_t *seconds, uint32_t *nanos);
 
-/* The GPS count a duration later, or earlier where it is negative. Refuses by 1 where that is below 0 or above 64
-   bits. */
+/* The GPS count a duration later, or earlier where it is negative. Refuses with 1 where that is below 0 or
+   above 64 bits. */
 uint32_t plaitgate_gps_checked_add(uint64_t count, int64_t duration, uint64_t *sum);
 
-/* The GPS count a duration earlier, or later where it is negative. Refuses by 1 where that is below 0 or above 64
-   bits. */
+/* The GPS count a duration earlier, or later where it is negative. Refuses with 1 where that is below 0 or
+   above 64 bits. */
 uint32_t plaitgate_gps_checked_sub_duration(uint64_t count, int64_t duration, uint64_t *difference);
 
 /* As plaitgate_gps_checked_add, but stops at 0 and at the largest count. Does not refuse. */
@@ -83,42 +85,23 @@ uint32_t plaitgate_gps_saturating_add(uint64_t count, int64_t duration, uint64_t
 /* As plaitgate_gps_checked_sub_duration, but stops at 0 and at the largest count. Does not refuse. */
 uint32_t plaitgate_gps_saturating_sub_duration(uint64_t count, int64_t duration, uint64_t *difference);
 
-/* The duration from `earlier` to `count`, both GPS, negative where `earlier` is the later. Refuses by 1 where it
-   does not fit 64 bits with sign. */
+/* The duration from `earlier` to `count`, both GPS, negative where `earlier` is the later. Refuses with 1 where
+   it does not fit 64 bits with sign. */
 uint32_t plaitgate_gps_checked_elapsed(uint64_t count, uint64_t earlier, int64_t *duration);
 
-/* The GPS count of the epoch (0), the least (0) and the largest (18446744073709551615), and the nanoseconds of a
-   year of 365 days. Does not refuse. */
+/* The GPS count of the epoch (0), the least (0) and the largest (18446744073709551615), and the nanoseconds
+   of a year of 365 days. Does not refuse. */
 uint32_t plaitgate_gps_limits(uint64_t *epoch, uint64_t *min, uint64_t *max, uint64_t *nanos_per_year);
-
-/* The GPS count of a week since the epoch and a time of week. Refuses by 2 where seconds reach 604800 or nanos
-   reach 1000000000; else by 1 where the count is above 64 bits, which begins in week 30500. */
-uint32_t plaitgate_gps_from_week_tow(uint32_t week, uint64_t seconds, uint32_t nanos, uint64_t *count);
-
-/* The week since the epoch that a GPS count lies in, 0 to 30500. Does not refuse. */
-uint32_t plaitgate_gps_week(uint64_t count, uint32_t *week);
-
-/* The whole seconds of a GPS count since its week began, 0 to 604799. Does not refuse. */
-uint32_t plaitgate_gps_tow_seconds(uint64_t count, uint32_t *seconds);
-
-/* The nanoseconds of a GPS count since its second began, 0 to 999999999. Does not refuse. */
-uint32_t plaitgate_gps_sub_second_nanos(uint64_t count, uint32_t *nanos);
-
-/* The TAI count of a GPS count: 19 s more. Refuses by 1 where that is above 64 bits. */
-uint32_t plaitgate_gps_to_tai(uint64_t count, uint64_t *tai);
-
-/* The GPS count of a TAI count: 19 s less. Refuses by 1 below 19 s. */
-uint32_t plaitgate_gps_from_tai(uint64_t tai, uint64_t *count);
 
 /* ---- UTC ---- */
 
-/* The UTC count of so many nanoseconds since the epoch: the same number. Does not refuse. */
+/* The UTC count of a number of nanoseconds since the epoch: the same number. Does not refuse. */
 uint32_t plaitgate_utc_from_nanos(uint64_t nanos, uint64_t *count);
 
 /* The nanoseconds of a UTC count since the epoch: the same number. Does not refuse. */
 uint32_t plaitgate_utc_as_nanos(uint64_t count, uint64_t *nanos);
 
-/* The UTC count of so many whole seconds since the epoch. Refuses by 1 above 18446744073 s. */
+/* The UTC count of a number of whole seconds since the epoch. Refuses with 1 above 18446744073 s. */
 uint32_t plaitgate_utc_checked_from_seconds(uint64_t seconds, uint64_t *count);
 
 /* The whole seconds of a UTC count since the epoch, rounded down. Does not refuse. */
@@ -127,12 +110,12 @@ uint32_t plaitgate_utc_as_seconds(uint64_t count, uint64_t *seconds);
 /* The whole seconds of a UTC count and the nanoseconds left, 0 to 999999999. Does not refuse. */
 uint32_t plaitgate_utc_as_parts(uint64_t count, uint64_t *seconds, uint32_t *nanos);
 
-/* The UTC count a duration later, or earlier where it is negative. Refuses by 1 where that is below 0 or above 64
-   bits. */
+/* The UTC count a duration later, or earlier where it is negative. Refuses with 1 where that is below 0 or
+   above 64 bits. */
 uint32_t plaitgate_utc_checked_add(uint64_t count, int64_t duration, uint64_t *sum);
 
-/* The UTC count a duration earlier, or later where it is negative. Refuses by 1 where that is below 0 or above 64
-   bits. */
+/* The UTC count a duration earlier, or later where it is negative. Refuses with 1 where that is below 0 or
+   above 64 bits. */
 uint32_t plaitgate_utc_checked_sub_duration(uint64_t count, int64_t duration, uint64_t *difference);
 
 /* As plaitgate_utc_checked_add, but stops at 0 and at the largest count. Does not refuse. */
@@ -141,37 +124,23 @@ uint32_t plaitgate_utc_saturating_add(uint64_t count, int64_t duration, uint64_t
 /* As plaitgate_utc_checked_sub_duration, but stops at 0 and at the largest count. Does not refuse. */
 uint32_t plaitgate_utc_saturating_sub_duration(uint64_t count, int64_t duration, uint64_t *difference);
 
-/* The duration from `earlier` to `count`, both UTC, negative where `earlier` is the later. Refuses by 1 where it
-   does not fit 64 bits with sign. */
+/* The duration from `earlier` to `count`, both UTC, negative where `earlier` is the later. Refuses with 1 where
+   it does not fit 64 bits with sign. */
 uint32_t plaitgate_utc_checked_elapsed(uint64_t count, uint64_t earlier, int64_t *duration);
 
-/* The UTC count of the epoch (0), the least (0) and the largest (18446744073709551615), and the nanoseconds of a
-   year of 365 days. Does not refuse. */
+/* The UTC count of the epoch (0), the least (0) and the largest (18446744073709551615), and the nanoseconds
+   of a year of 365 days. Does not refuse. */
 uint32_t plaitgate_utc_limits(uint64_t *epoch, uint64_t *min, uint64_t *max, uint64_t *nanos_per_year);
-
-/* The UTC count of so many seconds since 1970-01-01. Refuses by 1 below 63072000 (1972-01-01) and above
-   18509816073. */
-uint32_t plaitgate_utc_from_unix_seconds(int64_t seconds, uint64_t *count);
-
-/* The UTC count of so many nanoseconds since 1970-01-01. Refuses by 1 below 63072000 s (1972-01-01). */
-uint32_t plaitgate_utc_from_unix_nanos(int64_t nanos, uint64_t *count);
-
-/* The whole seconds of a UTC count since 1970-01-01, rounded down. Does not refuse. */
-uint32_t plaitgate_utc_as_unix_seconds(uint64_t count, int64_t *seconds);
-
-/* The nanoseconds of a UTC count since 1970-01-01, or 9223372036854775807 where they are more than that. Does not
-   refuse. */
-uint32_t plaitgate_utc_as_unix_nanos(uint64_t count, int64_t *nanos);
 
 /* ---- GLONASS ---- */
 
-/* The GLONASS count of so many nanoseconds since the epoch: the same number. Does not refuse. */
+/* The GLONASS count of a number of nanoseconds since the epoch: the same number. Does not refuse. */
 uint32_t plaitgate_glonass_from_nanos(uint64_t nanos, uint64_t *count);
 
 /* The nanoseconds of a GLONASS count since the epoch: the same number. Does not refuse. */
 uint32_t plaitgate_glonass_as_nanos(uint64_t count, uint64_t *nanos);
 
-/* The GLONASS count of so many whole seconds since the epoch. Refuses by 1 above 18446744073 s. */
+/* The GLONASS count of a number of whole seconds since the epoch. Refuses with 1 above 18446744073 s. */
 uint32_t plaitgate_glonass_checked_from_seconds(uint64_t seconds, uint64_t *count);
 
 /* The whole seconds of a GLONASS count since the epoch, rounded down. Does not refuse. */
@@ -180,11 +149,11 @@ uint32_t plaitgate_glonass_as_seconds(uint64_t count, uint64_t *seconds);
 /* The whole seconds of a GLONASS count and the nanoseconds left, 0 to 999999999. Does not refuse. */
 uint32_t plaitgate_glonass_as_parts(uint64_t count, uint64_t *seconds, uint32_t *nanos);
 
-/* The GLONASS count a duration later, or earlier where it is negative. Refuses by 1 where that is below 0 or
+/* The GLONASS count a duration later, or earlier where it is negative. Refuses with 1 where that is below 0 or
    above 64 bits. */
 uint32_t plaitgate_glonass_checked_add(uint64_t count, int64_t duration, uint64_t *sum);
 
-/* The GLONASS count a duration earlier, or later where it is negative. Refuses by 1 where that is below 0 or
+/* The GLONASS count a duration earlier, or later where it is negative. Refuses with 1 where that is below 0 or
    above 64 bits. */
 uint32_t plaitgate_glonass_checked_sub_duration(uint64_t count, int64_t duration, uint64_t *difference);
 
@@ -194,7 +163,7 @@ uint32_t plaitgate_glonass_saturating_add(uint64_t count, int64_t duration, uint
 /* As plaitgate_glonass_checked_sub_duration, but stops at 0 and at the largest count. Does not refuse. */
 uint32_t plaitgate_glonass_saturating_sub_duration(uint64_t count, int64_t duration, uint64_t *difference);
 
-/* The duration from `earlier` to `count`, both GLONASS, negative where `earlier` is the later. Refuses by 1 where
+/* The duration from `earlier` to `count`, both GLONASS, negative where `earlier` is the later. Refuses with 1 where
    it does not fit 64 bits with sign. */
 uint32_t plaitgate_glonass_checked_elapsed(uint64_t count, uint64_t earlier, int64_t *duration);
 
@@ -202,11 +171,91 @@ uint32_t plaitgate_glonass_checked_elapsed(uint64_t count, uint64_t earlier, int
    of a year of 365 days. Does not refuse. */
 uint32_t plaitgate_glonass_limits(uint64_t *epoch, uint64_t *min, uint64_t *max, uint64_t *nanos_per_year);
 
-/* The GLONASS count of a day since the epoch and a time of day. Refuses by 2 where seconds reach 86400 or nanos
-   reach 1000000000; else by 1 where the count is above 64 bits, which begins in day 213503. */
+/* ---- TAI ---- */
+
+/* The TAI count of a number of nanoseconds since the epoch: the same number. Does not refuse. */
+uint32_t plaitgate_tai_from_nanos(uint64_t nanos, uint64_t *count);
+
+/* The nanoseconds of a TAI count since the epoch: the same number. Does not refuse. */
+uint32_t plaitgate_tai_as_nanos(uint64_t count, uint64_t *nanos);
+
+/* The TAI count of a number of whole seconds since the epoch. Refuses with 1 above 18446744073 s. */
+uint32_t plaitgate_tai_checked_from_seconds(uint64_t seconds, uint64_t *count);
+
+/* The whole seconds of a TAI count since the epoch, rounded down. Does not refuse. */
+uint32_t plaitgate_tai_as_seconds(uint64_t count, uint64_t *seconds);
+
+/* The whole seconds of a TAI count and the nanoseconds left, 0 to 999999999. Does not refuse. */
+uint32_t plaitgate_tai_as_parts(uint64_t count, uint64_t *seconds, uint32_t *nanos);
+
+/* The TAI count a duration later, or earlier where it is negative. Refuses with 1 where that is below 0 or
+   above 64 bits. */
+uint32_t plaitgate_tai_checked_add(uint64_t count, int64_t duration, uint64_t *sum);
+
+/* The TAI count a duration earlier, or later where it is negative. Refuses with 1 where that is below 0 or
+   above 64 bits. */
+uint32_t plaitgate_tai_checked_sub_duration(uint64_t count, int64_t duration, uint64_t *difference);
+
+/* As plaitgate_tai_checked_add, but stops at 0 and at the largest count. Does not refuse. */
+uint32_t plaitgate_tai_saturating_add(uint64_t count, int64_t duration, uint64_t *sum);
+
+/* As plaitgate_tai_checked_sub_duration, but stops at 0 and at the largest count. Does not refuse. */
+uint32_t plaitgate_tai_saturating_sub_duration(uint64_t count, int64_t duration, uint64_t *difference);
+
+/* The duration from `earlier` to `count`, both TAI, negative where `earlier` is the later. Refuses with 1 where
+   it does not fit 64 bits with sign. */
+uint32_t plaitgate_tai_checked_elapsed(uint64_t count, uint64_t earlier, int64_t *duration);
+
+/* The TAI count of the epoch (0), the least (0) and the largest (18446744073709551615), and the nanoseconds
+   of a year of 365 days. Does not refuse. */
+uint32_t plaitgate_tai_limits(uint64_t *epoch, uint64_t *min, uint64_t *max, uint64_t *nanos_per_year);
+
+/* end of every scale */
+
+/* ---- GPS alone ---- */
+
+/* The GPS count of a week since the epoch and a time of week. Refuses with 2 where seconds reach 604800 or nanos
+   reach 1000000000; else with 1 where the count is above 64 bits, which begins in week 30500. */
+uint32_t plaitgate_gps_from_week_tow(uint32_t week, uint64_t seconds, uint32_t nanos, uint64_t *count);
+
+/* The week since the epoch of a GPS count, 0 to 30500. Does not refuse. */
+uint32_t plaitgate_gps_week(uint64_t count, uint32_t *week);
+
+/* The whole seconds of a GPS count since its week began, 0 to 604799. Does not refuse. */
+uint32_t plaitgate_gps_tow_seconds(uint64_t count, uint32_t *seconds);
+
+/* The nanoseconds of a GPS count since its second began, 0 to 999999999. Does not refuse. */
+uint32_t plaitgate_gps_sub_second_nanos(uint64_t count, uint32_t *nanos);
+
+/* The TAI count of a GPS count: 19 s more. Refuses with 1 where that is above 64 bits. */
+uint32_t plaitgate_gps_to_tai(uint64_t count, uint64_t *tai);
+
+/* The GPS count of a TAI count: 19 s less. Refuses with 1 below 19 s. */
+uint32_t plaitgate_gps_from_tai(uint64_t tai, uint64_t *count);
+
+/* ---- UTC alone ---- */
+
+/* The UTC count of seconds since 1970-01-01. Refuses with 1 below 63072000 (1972-01-01) and above
+   18509816073. */
+uint32_t plaitgate_utc_from_unix_seconds(int64_t seconds, uint64_t *count);
+
+/* The UTC count of nanoseconds since 1970-01-01. Refuses with 1 below 63072000 s (1972-01-01). */
+uint32_t plaitgate_utc_from_unix_nanos(int64_t nanos, uint64_t *count);
+
+/* The whole seconds of a UTC count since 1970-01-01, rounded down. Does not refuse. */
+uint32_t plaitgate_utc_as_unix_seconds(uint64_t count, int64_t *seconds);
+
+/* The nanoseconds of a UTC count since 1970-01-01, or 9223372036854775807 where they are more than that. Does not
+   refuse. */
+uint32_t plaitgate_utc_as_unix_nanos(uint64_t count, int64_t *nanos);
+
+/* ---- GLONASS alone ---- */
+
+/* The GLONASS count of a day since the epoch and a time of day. Refuses with 2 where seconds reach 86400 or nanos
+   reach 1000000000; else with 1 where the count is above 64 bits, which begins in day 213503. */
 uint32_t plaitgate_glonass_from_day_tod(uint32_t day, uint64_t seconds, uint32_t nanos, uint64_t *count);
 
-/* The day since the epoch that a GLONASS count lies in, 0 to 213503. Does not refuse. */
+/* The day since the epoch of a GLONASS count, 0 to 213503. Does not refuse. */
 uint32_t plaitgate_glonass_day(uint64_t count, uint32_t *day);
 
 /* The whole seconds of a GLONASS count since its day began, 0 to 86399. Does not refuse. */
@@ -221,52 +270,13 @@ uint32_t plaitgate_glonass_day_of_week(uint64_t count, uint8_t *weekday);
 /* 1 where the weekday of a GLONASS count is Saturday or Sunday, else 0. Does not refuse. */
 uint32_t plaitgate_glonass_is_weekend(uint64_t count, uint8_t *yes);
 
-/* ---- TAI ---- */
-
-/* The TAI count of so many nanoseconds since the epoch: the same number. Does not refuse. */
-uint32_t plaitgate_tai_from_nanos(uint64_t nanos, uint64_t *count);
-
-/* The nanoseconds of a TAI count since the epoch: the same number. Does not refuse. */
-uint32_t plaitgate_tai_as_nanos(uint64_t count, uint64_t *nanos);
-
-/* The TAI count of so many whole seconds since the epoch. Refuses by 1 above 18446744073 s. */
-uint32_t plaitgate_tai_checked_from_seconds(uint64_t seconds, uint64_t *count);
-
-/* The whole seconds of a TAI count since the epoch, rounded down. Does not refuse. */
-uint32_t plaitgate_tai_as_seconds(uint64_t count, uint64_t *seconds);
-
-/* The whole seconds of a TAI count and the nanoseconds left, 0 to 999999999. Does not refuse. */
-uint32_t plaitgate_tai_as_parts(uint64_t count, uint64_t *seconds, uint32_t *nanos);
-
-/* The TAI count a duration later, or earlier where it is negative. Refuses by 1 where that is below 0 or above 64
-   bits. */
-uint32_t plaitgate_tai_checked_add(uint64_t count, int64_t duration, uint64_t *sum);
-
-/* The TAI count a duration earlier, or later where it is negative. Refuses by 1 where that is below 0 or above 64
-   bits. */
-uint32_t plaitgate_tai_checked_sub_duration(uint64_t count, int64_t duration, uint64_t *difference);
-
-/* As plaitgate_tai_checked_add, but stops at 0 and at the largest count. Does not refuse. */
-uint32_t plaitgate_tai_saturating_add(uint64_t count, int64_t duration, uint64_t *sum);
-
-/* As plaitgate_tai_checked_sub_duration, but stops at 0 and at the largest count. Does not refuse. */
-uint32_t plaitgate_tai_saturating_sub_duration(uint64_t count, int64_t duration, uint64_t *difference);
-
-/* The duration from `earlier` to `count`, both TAI, negative where `earlier` is the later. Refuses by 1 where it
-   does not fit 64 bits with sign. */
-uint32_t plaitgate_tai_checked_elapsed(uint64_t count, uint64_t earlier, int64_t *duration);
-
-/* The TAI count of the epoch (0), the least (0) and the largest (18446744073709551615), and the nanoseconds of a
-   year of 365 days. Does not refuse. */
-uint32_t plaitgate_tai_limits(uint64_t *epoch, uint64_t *min, uint64_t *max, uint64_t *nanos_per_year);
-
 /* ---- Durations ---- */
 
-/* Whole seconds and nanoseconds as they are given. Refuses by 2 where nanos reach 1000000000. */
+/* Whole seconds and nanoseconds as they are given. Refuses with 2 where nanos reach 1000000000. */
 uint32_t plaitgate_duration_parts_new(uint64_t seconds, uint32_t nanos, uint64_t *parts_seconds,
                                       uint32_t *parts_nanos);
 
-/* The duration of so many nanoseconds: the same number. Does not refuse. */
+/* The duration of a number of nanoseconds: the same number. Does not refuse. */
 uint32_t plaitgate_duration_from_nanos(int64_t nanos, int64_t *duration);
 
 /* The nanoseconds of a duration: the same number. Does not refuse. */
@@ -284,11 +294,11 @@ uint32_t plaitgate_duration_as_nanos(int64_t duration, int64_t *nanos);
 uint32_t plaitgate_civil_date_new(int32_t year, uint8_t month, uint8_t day, int32_t *date_year, uint8_t *date_month,
                                   uint8_t *date_day);
 
-/* The days from 1970-01-01 to a date, negative before it. Refuses by 1 for year -2147483648 with a month of 0 to
+/* The days from 1970-01-01 to a date, negative before it. Refuses with 1 for year -2147483648 with a month of 0 to
    2. */
 uint32_t plaitgate_civil_date_days_from_unix(int32_t year, uint8_t month, uint8_t day, int64_t *days);
 
-/* The days from a date to another, negative where the other is earlier. Refuses by 1 where either has year
+/* The days from a date to another, negative where the other is earlier. Refuses with 1 where either has year
    -2147483648 and a month of 0 to 2. */
 uint32_t plaitgate_civil_date_days_until(int32_t year, uint8_t month, uint8_t day, int32_t other_year,
                                          uint8_t other_month, uint8_t other_day, int64_t *days);
@@ -297,14 +307,14 @@ uint32_t plaitgate_civil_date_days_until(int32_t year, uint8_t month, uint8_t da
 uint32_t plaitgate_civil_date_seconds_until(int32_t year, uint8_t month, uint8_t day, int32_t other_year,
                                             uint8_t other_month, uint8_t other_day, int64_t *seconds);
 
-/* As plaitgate_civil_date_days_until, in nanoseconds. Refuses by 1 also beyond 106751 days, where they do not fit 64
+/* As plaitgate_civil_date_days_until, in nanoseconds. Refuses with 1 also beyond 106751 days, where they do not fit 64
    bits with sign. */
 uint32_t plaitgate_civil_date_nanos_until(int32_t year, uint8_t month, uint8_t day, int32_t other_year,
                                           uint8_t other_month, uint8_t other_day, int64_t *nanos);
 
 /* ---- Civil times ---- */
 
-/* The date and the time of day of so many nanoseconds since 1972-01-01. Does not refuse: the last is
+/* The date and the time of day of a UTC count. Does not refuse: the last is
    2556-07-20T23:34:33.709551615. */
 uint32_t plaitgate_civil_from_utc_nanos(uint64_t count, int32_t *year, uint8_t *month, uint8_t *day, uint8_t *hour,
                                         uint8_t *minute, uint8_t *second, uint32_t *nanos);
@@ -314,7 +324,7 @@ uint32_t plaitgate_utc_to_civil(uint64_t count, int32_t *year, uint8_t *month, u
                                 uint8_t *minute, uint8_t *second, uint32_t *nanos);
 
 /* The nanoseconds from 1972-01-01 to a date and a time of day. No field is checked: hour 24 is the next day's hour 0.
-   Refuses by 1 where the date is before 1972-01-01, or the sum above 64 bits. */
+   Refuses with 1 where the date is before 1972-01-01, or the sum above 64 bits. */
 uint32_t plaitgate_civil_to_utc_nanos(int32_t year, uint8_t month, uint8_t day, uint8_t hour, uint8_t minute,
                                       uint8_t second, uint32_t nanos, uint64_t *count);
 
@@ -328,10 +338,10 @@ uint32_t plaitgate_civil_is_whole_second(int32_t year, uint8_t month, uint8_t da
 
 /* ---- GLONASS and UTC ---- */
 
-/* The UTC count of a GLONASS count: 757371600 s more. Refuses by 1 where that is above 64 bits. */
+/* The UTC count of a GLONASS count: 757371600 s more. Refuses with 1 where that is above 64 bits. */
 uint32_t plaitgate_glonass_to_utc(uint64_t glonass, uint64_t *utc);
 
-/* The GLONASS count of a UTC count: 757371600 s less. Refuses by 1 below 757371600 s. */
+/* The GLONASS count of a UTC count: 757371600 s less. Refuses with 1 below 757371600 s. */
 uint32_t plaitgate_utc_to_glonass(uint64_t utc, uint64_t *glonass);
 
 /* ---- Conversions by the built-in table ---- */
@@ -347,20 +357,20 @@ uint32_t plaitgate_utc_to_glonass(uint64_t utc, uint64_t *glonass);
 /* TAI minus UTC in seconds at a TAI count, 19 to 37. Does not refuse. */
 uint32_t plaitgate_builtin_tai_minus_utc_at(uint64_t tai, int32_t *offset);
 
-/* The UTC count of a GPS count. Refuses by 1 where it is above 64 bits, which begins at GPS 18193851291709551616. */
+/* The UTC count of a GPS count. Refuses with 1 where it is above 64 bits, which begins at GPS 18193851291709551616. */
 uint32_t plaitgate_builtin_gps_to_utc(uint64_t gps, uint64_t *utc);
 
-/* The GPS count of a UTC count. Refuses by 1 below UTC 252892800 s, which is GPS 0. */
+/* The GPS count of a UTC count. Refuses with 1 below UTC 252892800 s, which is GPS 0. */
 uint32_t plaitgate_builtin_utc_to_gps(uint64_t utc, uint64_t *gps);
 
-/* The GPS count of a GLONASS count, by way of UTC. Refuses by 1 where the UTC count is above 64 bits. */
+/* The GPS count of a GLONASS count, by way of UTC. Refuses with 1 where the UTC count is above 64 bits. */
 uint32_t plaitgate_builtin_glonass_to_gps(uint64_t glonass, uint64_t *gps);
 
-/* The GLONASS count of a GPS count, by way of UTC. Refuses by 1 where the UTC count is above 64 bits, or below
+/* The GLONASS count of a GPS count, by way of UTC. Refuses with 1 where the UTC count is above 64 bits, or below
    757371600 s. */
 uint32_t plaitgate_builtin_gps_to_glonass(uint64_t gps, uint64_t *glonass);
 
-/* The GPS count of so many seconds since 1970-01-01, by way of UTC. Refuses by 1 below 315964800 (1980-01-06) and
+/* The GPS count of seconds since 1970-01-01, by way of UTC. Refuses with 1 below 315964800 (1980-01-06) and
    above 18509816073. */
 uint32_t plaitgate_builtin_gps_from_unix_seconds(int64_t seconds, uint64_t *gps);
 
@@ -378,13 +388,13 @@ uint32_t plaitgate_builtin_gps_as_unix_seconds(uint64_t gps, int64_t *seconds);
  *   bytes   0 to   7  the number of entries
  *   bytes   8 to 519  64 thresholds of 8 bytes
  *   bytes 520 to 775  64 offsets of 4 bytes, in two's complement
- * The entries are the first so many thresholds and offsets; a table made by a call here has zeros in the others. Any
- * bytes may be handed in as an image. Where they are not PLAITGATE_IMAGE_BYTES, or hold no valid table, each call that
- * reads a table refuses by 8, whatever its other inputs.
+ * The entries are the first thresholds and offsets, as many as that number; a table made by a call here has zeros in
+ * the others. Any bytes may be passed as an image. Where they are not PLAITGATE_IMAGE_BYTES, or hold no valid table,
+ * each call that reads a table refuses with 8, whatever its other inputs.
  *
- * An image, like a list of entries, crosses as a pointer and the number of bytes that it leads to. That there are so
- * many is up to the caller, and so is it that no two of the places handed to one call overlap: images, lists of entries
- * and places of results. The pointer need not be aligned, and must not be null, for no bytes too. What is said to be an
+ * An image, like a list of entries, crosses as a pointer and the number of its bytes. The caller guarantees that there
+ * are that many, and that no two of the places passed to one call overlap: images, lists of entries and places of
+ * results. The pointer need not be aligned, and must not be null, for no bytes too. What is said to be an
  * image as it was has not been written to.
  */
 #define PLAITGATE_IMAGE_BYTES 776
@@ -392,116 +402,118 @@ uint32_t plaitgate_builtin_gps_as_unix_seconds(uint64_t gps, int64_t *seconds);
 /* The bytes of one entry in a list of entries: 8 of the threshold, then 4 of the offset, each low byte first. */
 #define PLAITGATE_ENTRY_BYTES 12
 
-/* Writes the image of the table with no entry. Refuses by 8 where there are not PLAITGATE_IMAGE_BYTES bytes, and leaves
-   them as they were; what the bytes hold does not matter. */
+/* Writes the image of the table with no entry. Refuses with 8 where there are not PLAITGATE_IMAGE_BYTES bytes, and
+   leaves them as they were; what the bytes hold does not matter. */
 uint32_t plaitgate_table_new(uint8_t *image, size_t image_bytes);
 
 /* Writes the image of the built-in table. Refuses as plaitgate_table_new. */
 uint32_t plaitgate_table_from_builtin(uint8_t *image, size_t image_bytes);
 
-/* Writes the image of the table that has the entries of a list. Refuses by 8 where there are not PLAITGATE_IMAGE_BYTES
-   bytes for the image, and leaves them as they were. Else refuses by 8 where the list is no whole number of entries, by
-   6 where it has none, by 5 where it has more than 64; then for the first entry that cannot follow the one before it:
-   by 3 where its threshold is not above that one's, by 7 where that one's offset is 2147483647, by 4 where its offset
-   is not one more. On these refusals the image is that of the table with no entry. */
+/* Writes the image of the table that has the entries of a list. Refuses with 8 where there are not
+   PLAITGATE_IMAGE_BYTES bytes for the image, and leaves them as they were. Else refuses with 8 where the list is no
+   whole number of entries, by 6 where it has none, with 5 where it has more than 64; then for the first entry that
+   cannot follow the one before it: with 3 where its threshold is not above that one's, with 7 where that one's offset
+   is 2147483647, with 4 where its offset is not one more. On these refusals the image is that of the table with no
+   entry. */
 uint32_t plaitgate_table_from_entries(const uint8_t *entries, size_t entries_bytes, uint8_t *image,
                                       size_t image_bytes);
 
-/* Joins an entry to the table in an image, at its end; a table with no entry takes any. Refuses by 8 where the image
-   holds no valid table, by 5 where it has 64 entries, by 3 where the threshold is not above the last, by 7 where the
-   last offset is 2147483647, by 4 where the offset is not one more than the last, in this order. On a refusal the image
-   is as it was, else it has changed in its number of entries and in the slot behind the last entry. */
+/* Joins an entry to the table in an image, at its end; a table with no entry takes any. Refuses with 8 where the image
+   holds no valid table, with 5 where it has 64 entries, with 3 where the threshold is not above the last, with 7 where
+   the last offset is 2147483647, with 4 where the offset is not one more than the last, in this order. On a refusal the
+   image is as it was, else it has changed in its number of entries and in the slot after the last entry. */
 uint32_t plaitgate_table_try_extend(uint8_t *image, size_t image_bytes, uint64_t tai_nanos, int32_t tai_minus_utc);
 
 /* The threshold of a leap-second event, for an entry with the offset that begins then. The date is the UTC day that
    begins with the new offset, as IERS Bulletin C gives it: 2017-01-01 and 37 give 1167264037 s. It is the UTC count of
    that midnight, less 252892800 s, plus the offset. (plaitgate_builtin_utc_to_gps and plaitgate_gps_to_tai give the
-   inserted second, one earlier.) Takes any fields, as plaitgate_civil_to_utc_nanos. Refuses by 1 where the date has no
-   UTC count, and where the threshold is below 0 or above 64 bits. */
+   inserted second, one earlier.) Takes any fields, as plaitgate_civil_to_utc_nanos. Refuses with 1 where the date has
+   no UTC count, and where the threshold is below 0 or above 64 bits. */
 uint32_t plaitgate_entry_of_event(int32_t year, uint8_t month, uint8_t day, int32_t tai_minus_utc,
                                   uint64_t *tai_nanos);
 
-/* The number of entries, 0 to 64. Refuses by 8. */
+/* The number of entries, 0 to 64. Refuses with 8. */
 uint32_t plaitgate_table_len(const uint8_t *image, size_t image_bytes, uint64_t *len);
 
-/* 1 where the table has no entry, else 0. Refuses by 8. */
+/* 1 where the table has no entry, else 0. Refuses with 8. */
 uint32_t plaitgate_table_is_empty(const uint8_t *image, size_t image_bytes, uint8_t *yes);
 
 /* The entry at a place, from 0 on, and found 1; past the last entry there is nothing, and all three results are 0.
-   Refuses by 8. */
+   Refuses with 8. */
 uint32_t plaitgate_table_entry_at(const uint8_t *image, size_t image_bytes, uint64_t place, uint8_t *found,
                                   uint64_t *tai_nanos, int32_t *tai_minus_utc);
 
 /* The last threshold, and found 1; where the table has no entry or only one there is nothing, and both results are 0.
-   Refuses by 8. */
+   Refuses with 8. */
 uint32_t plaitgate_table_last_update(const uint8_t *image, size_t image_bytes, uint8_t *found, uint64_t *tai);
 
-/* The last offset, or 19 where the table has no entry. Refuses by 8. */
+/* The last offset, or 19 where the table has no entry. Refuses with 8. */
 uint32_t plaitgate_table_current_tai_minus_utc(const uint8_t *image, size_t image_bytes, int32_t *offset);
 
 /* The offset in force at a TAI count: that of the last entry whose threshold is not above it, the first offset before
-   the first threshold, 19 where the table has no entry. Refuses by 8. */
+   the first threshold, 19 where the table has no entry. Refuses with 8. */
 uint32_t plaitgate_table_tai_minus_utc_at(const uint8_t *image, size_t image_bytes, uint64_t tai, int32_t *offset);
 
 /* ---- Lent lists of entries ---- */
 
 /*
- * A list of entries may also be used as it is, with any number of them and no image: it is read where it lies, and
+ * A list of entries may also be used as it is, with any number of them and no image: it is read in place, and
  * nothing is written to it. A list is valid if its thresholds rise and its offsets rise by exactly 1; one of no entries
  * is. Where the bytes are no whole number of entries, and where the list is not valid, each call but the check refuses
- * by 8.
+ * with 8.
  */
 
-/* Whether a table could have these entries, but for their number. Refuses by 8 where the bytes are no whole number of
-   entries, by 6 where there are none; then for the first entry that cannot follow the one before it: by 3 where its
-   threshold is not above that one's, by 7 where that one's offset is 2147483647, by 4 where its offset is not one
-   more. */
+/* Whether a table could have these entries, leaving their number aside. Refuses with 8 where the bytes are no whole
+   number of entries, with 6 where there are none; then for the first entry that cannot follow the one before it: with 3
+   where its threshold is not above that one's, with 7 where that one's offset is 2147483647, with 4 where its offset is
+   not one more. */
 uint32_t plaitgate_list_check(const uint8_t *entries, size_t entries_bytes);
 
-/* The number of entries. Refuses by 8. */
+/* The number of entries. Refuses with 8. */
 uint32_t plaitgate_list_len(const uint8_t *entries, size_t entries_bytes, uint64_t *len);
 
-/* 1 where the list has no entry, else 0. Refuses by 8. */
+/* 1 where the list has no entry, else 0. Refuses with 8. */
 uint32_t plaitgate_list_is_empty(const uint8_t *entries, size_t entries_bytes, uint8_t *yes);
 
 /* The last threshold, and found 1; where the list has no entry or only one there is nothing, and both results are 0.
-   Refuses by 8. */
+   Refuses with 8. */
 uint32_t plaitgate_list_last_update(const uint8_t *entries, size_t entries_bytes, uint8_t *found, uint64_t *tai);
 
-/* The last offset, or 19 where the list has no entry. Refuses by 8. */
+/* The last offset, or 19 where the list has no entry. Refuses with 8. */
 uint32_t plaitgate_list_current_tai_minus_utc(const uint8_t *entries, size_t entries_bytes, int32_t *offset);
 
 /* The offset in force at a TAI count: that of the last entry whose threshold is not above it, the first offset before
-   the first threshold, 19 where the list has no entry. Refuses by 8. */
+   the first threshold, 19 where the list has no entry. Refuses with 8. */
 uint32_t plaitgate_list_tai_minus_utc_at(const uint8_t *entries, size_t entries_bytes, uint64_t tai, int32_t *offset);
 
 /* ---- Conversions by a table ---- */
 
-/* The UTC count of a GPS count: by the offset n in force 19 s on, n - 19 s less and 252892800 s more. Refuses by 8
-   where the image holds no valid table, by 1 where the GPS count and 19 s is above 64 bits, by 9 where n is below
-   -2147483629, by 1 where the UTC count is below 0 or above 64 bits, in this order. */
-uint32_t plaitgate_gps_to_utc(uint64_t gps, const uint8_t *image, size_t image_bytes, uint64_t *utc);
+/* The UTC count of a GPS count: by the offset n in force 19 s on, n - 19 s less and 252892800 s more. Refuses with 8
+   where the image holds no valid table, with 1 where the GPS count and 19 s is above 64 bits, with 9 where n is below
+   -2147483629, with 1 where the UTC count is below 0 or above 64 bits, in this order. */
+uint32_t plaitgate_table_gps_to_utc(uint64_t gps, const uint8_t *image, size_t image_bytes, uint64_t *utc);
 
 /* The GPS count of a UTC count: by an offset n, n - 19 s more and 252892800 s less. To find n, the offset in force is
-   looked up at a, which is UTC - 252892800 s + 19 s, or 0 where that is no count; then n is the offset in force at
-   UTC - 252892800 s + so many seconds, or at a where that is no count. Refuses by 8 where the image holds no valid
-   table, by 9 where n is below -2147483629, by 1 where the GPS count is below 0 or above 64 bits, in this order. */
-uint32_t plaitgate_utc_to_gps(uint64_t utc, const uint8_t *image, size_t image_bytes, uint64_t *gps);
+   looked up at a, which is UTC - 252892800 s + 19 s, or 0 where that is no count; then n is the offset in force at UTC
+   - 252892800 s + that offset in seconds, or at a where that is no count. Refuses with 8 where the image holds no valid
+   table, with 9 where n is below -2147483629, with 1 where the GPS count is below 0 or above 64 bits, in this order. */
+uint32_t plaitgate_table_utc_to_gps(uint64_t utc, const uint8_t *image, size_t image_bytes, uint64_t *gps);
 
-/* The GPS count of a GLONASS count, by way of UTC. Refuses by 8, then as plaitgate_glonass_to_utc, then as
-   plaitgate_utc_to_gps. */
-uint32_t plaitgate_glonass_to_gps(uint64_t glonass, const uint8_t *image, size_t image_bytes, uint64_t *gps);
+/* The GPS count of a GLONASS count, by way of UTC. Refuses with 8, then as plaitgate_glonass_to_utc, then as
+   plaitgate_table_utc_to_gps. */
+uint32_t plaitgate_table_glonass_to_gps(uint64_t glonass, const uint8_t *image, size_t image_bytes, uint64_t *gps);
 
-/* The GLONASS count of a GPS count, by way of UTC. Refuses as plaitgate_gps_to_utc, then as
+/* The GLONASS count of a GPS count, by way of UTC. Refuses as plaitgate_table_gps_to_utc, then as
    plaitgate_utc_to_glonass. */
-uint32_t plaitgate_gps_to_glonass(uint64_t gps, const uint8_t *image, size_t image_bytes, uint64_t *glonass);
+uint32_t plaitgate_table_gps_to_glonass(uint64_t gps, const uint8_t *image, size_t image_bytes, uint64_t *glonass);
 
-/* The GPS count of so many seconds since 1970-01-01, by way of UTC. Refuses by 8, then as
-   plaitgate_utc_from_unix_seconds, then as plaitgate_utc_to_gps. */
-uint32_t plaitgate_gps_from_unix_seconds(int64_t seconds, const uint8_t *image, size_t image_bytes, uint64_t *gps);
+/* The GPS count of seconds since 1970-01-01, by way of UTC. Refuses with 8, then as
+   plaitgate_utc_from_unix_seconds, then as plaitgate_table_utc_to_gps. */
+uint32_t plaitgate_table_gps_from_unix_seconds(int64_t seconds, const uint8_t *image, size_t image_bytes, uint64_t *gps);
 
-/* The whole seconds since 1970-01-01 of a GPS count, by way of UTC, rounded down. Refuses as plaitgate_gps_to_utc. */
-uint32_t plaitgate_gps_as_unix_seconds(uint64_t gps, const uint8_t *image, size_t image_bytes, int64_t *seconds);
+/* The whole seconds since 1970-01-01 of a GPS count, by way of UTC, rounded down. Refuses as
+   plaitgate_table_gps_to_utc. */
+uint32_t plaitgate_table_gps_as_unix_seconds(uint64_t gps, const uint8_t *image, size_t image_bytes, int64_t *seconds);
 
 #ifdef __cplusplus
 }

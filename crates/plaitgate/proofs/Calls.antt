@@ -1,8 +1,13 @@
 -- One answer for each input of each call, by groups.
+-- every scale, by tools/write-scales
 pub mod Gps
 pub mod Utc
 pub mod Glonass
 pub mod Tai
+-- end of every scale
+pub mod GpsWeeks
+pub mod GlonassDays
+pub mod UtcUnix
 pub mod Durations
 pub mod CivilDates
 pub mod CivilTimes

@@ -4,7 +4,6 @@ use mathlib.Core.Option.{Option, none, some}
 use mathlib.Core.List.{List}
 use Prim.Native.Nat.{ℕ}
 use lib.IntN.{pos}
-use Rattle.refusals.specs.Outcome.{Outcome, answered, refused}
 use Rattle.tables.specs.Entries.{Entry, entry}
 use Rattle.images.specs.Image.{sized, imageOf, builtFrom}
 
@@ -12,7 +11,8 @@ use Rattle.images.specs.Image.{sized, imageOf, builtFrom}
 abbrev pub leaves : ℕ → List ℕ → ℕ × List ℕ
 leaves k b = (k, b)
 
--- building into an image: the number, and the image of the table built; 8 and the bytes as they were where they are no image
+-- building into an image: the number, and the image of the table built; 8 and the bytes as they were where they are no
+-- image
 abbrev pub imageBuilt : List ℕ → List ℕ → ℕ × List ℕ
 imageBuilt entries b = cond (sized b) (builtFrom entries .0, imageOf (builtFrom entries .1)) (8, b)
 
@@ -35,8 +35,3 @@ foundEntry none = foundAs 0 (entry 0 (pos 0))
 abbrev pub foundCount : Option ℕ → Found ℕ
 foundCount (some n) = foundAs 1 n
 foundCount none = foundAs 0 0
-
--- an outcome with its answer changed
-abbrev pub changed : {A B : Type 0} → (A → B) → Outcome A → Outcome B
-changed f (answered a) = answered (f a)
-changed f (refused k) = refused k

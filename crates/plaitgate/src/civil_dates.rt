@@ -16,7 +16,8 @@ pub extern "C" fn plaitgate_civil_date_new(
     date_month: &mut u8,
     date_day: &mut u8,
 ) -> u32
-    ensures { λ r. ⌜ Gives (on (pos 0) 0 0) (answered (on year month day)) r (on (now («date_year» .exit)) (now («date_month» .exit)) (now («date_day» .exit))) ⌝ }
+    ensures { λ r. ⌜ Gives (on (pos 0) 0 0) (answered (on year month day)) r
+        (on (now («date_year» .exit)) (now («date_month» .exit)) (now («date_day» .exit))) ⌝ }
 {
     let date = CivilDate::new(year, month, day);
     let new_year = date.year;
@@ -49,7 +50,8 @@ pub extern "C" fn plaitgate_civil_date_days_until(
     other_day: u8,
     days: &mut i64,
 ) -> u32
-    ensures { λ r. ⌜ Gives (pos 0) (daysUntil (on year month day) (on «other_year» «other_month» «other_day»)) r (now (days .exit)) ⌝ }
+    ensures { λ r. ⌜ Gives (pos 0) (daysUntil (on year month day) (on «other_year» «other_month» «other_day»)) r
+        (now (days .exit)) ⌝ }
 {
     let date = CivilDate { year, month, day };
     let other = CivilDate {
@@ -70,7 +72,8 @@ pub extern "C" fn plaitgate_civil_date_seconds_until(
     other_day: u8,
     seconds: &mut i64,
 ) -> u32
-    ensures { λ r. ⌜ Gives (pos 0) (secondsUntil (on year month day) (on «other_year» «other_month» «other_day»)) r (now (seconds .exit)) ⌝ }
+    ensures { λ r. ⌜ Gives (pos 0) (secondsUntil (on year month day) (on «other_year» «other_month» «other_day»)) r
+        (now (seconds .exit)) ⌝ }
 {
     let date = CivilDate { year, month, day };
     let other = CivilDate {
@@ -91,7 +94,8 @@ pub extern "C" fn plaitgate_civil_date_nanos_until(
     other_day: u8,
     nanos: &mut i64,
 ) -> u32
-    ensures { λ r. ⌜ Gives (pos 0) (nanosUntil (on year month day) (on «other_year» «other_month» «other_day»)) r (now (nanos .exit)) ⌝ }
+    ensures { λ r. ⌜ Gives (pos 0) (nanosUntil (on year month day) (on «other_year» «other_month» «other_day»)) r
+        (now (nanos .exit)) ⌝ }
 {
     let date = CivilDate { year, month, day };
     let other = CivilDate {

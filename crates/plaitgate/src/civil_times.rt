@@ -20,7 +20,9 @@ pub extern "C" fn plaitgate_civil_from_utc_nanos(
     second: &mut u8,
     nanos: &mut u32,
 ) -> u32
-    ensures { λ r. ⌜ Gives (fields (pos 0) 0 0 0 0 0 0) (answered (fieldsOf count)) r (fields (now (year .exit)) (now (month .exit)) (now (day .exit)) (now (hour .exit)) (now (minute .exit)) (now (second .exit)) (now (nanos .exit))) ⌝ }
+    ensures { λ r. ⌜ Gives (fields (pos 0) 0 0 0 0 0 0) (answered (fieldsOf count)) r
+        (fields (now (year .exit)) (now (month .exit)) (now (day .exit)) (now (hour .exit)) (now (minute .exit))
+        (now (second .exit)) (now (nanos .exit))) ⌝ }
 {
     give::civil(
         CivilDateTime::from_utc_nanos(count),
@@ -46,7 +48,9 @@ pub extern "C" fn plaitgate_utc_to_civil(
     second: &mut u8,
     nanos: &mut u32,
 ) -> u32
-    ensures { λ r. ⌜ Gives (fields (pos 0) 0 0 0 0 0 0) (answered (fieldsOf count)) r (fields (now (year .exit)) (now (month .exit)) (now (day .exit)) (now (hour .exit)) (now (minute .exit)) (now (second .exit)) (now (nanos .exit))) ⌝ }
+    ensures { λ r. ⌜ Gives (fields (pos 0) 0 0 0 0 0 0) (answered (fieldsOf count)) r
+        (fields (now (year .exit)) (now (month .exit)) (now (day .exit)) (now (hour .exit)) (now (minute .exit))
+        (now (second .exit)) (now (nanos .exit))) ⌝ }
 {
     give::civil(
         civil::to_civil(Utc(count)),
@@ -83,7 +87,7 @@ pub extern "C" fn plaitgate_civil_to_utc_nanos(
         second,
         nanos,
     };
-    give::plain_count(c.to_utc_nanos(), count)
+    give::count(c.to_utc_nanos(), count)
 }
 
 #[no_mangle]

@@ -1,4 +1,4 @@
-// Durations, and seconds with the nanoseconds beside them.
+// Durations, and seconds with their nanoseconds.
 ghost use mathlib.Core.Path.{_≡_};
 ghost use lib.IntN.{pos};
 ghost use Rattle.refusals.specs.Outcome.{Gives, answered};
@@ -15,7 +15,8 @@ pub extern "C" fn plaitgate_duration_parts_new(
     parts_seconds: &mut u64,
     parts_nanos: &mut u32,
 ) -> u32
-    ensures { λ r. ⌜ Gives (partsOf 0) (partsFrom seconds nanos) r (record { seconds = now («parts_seconds» .exit); nanos = now («parts_nanos» .exit) }) ⌝ }
+    ensures { λ r. ⌜ Gives (partsOf 0) (partsFrom seconds nanos) r
+        (record { seconds = now («parts_seconds» .exit); nanos = now («parts_nanos» .exit) }) ⌝ }
 {
     give::parts(
         DurationParts::new(seconds, nanos),

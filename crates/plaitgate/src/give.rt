@@ -1,17 +1,18 @@
-// An answer handed to a host: its refusal's number is returned, its value written.
+// Writes an answer through the host's pointers, and returns its refusal number, or 0.
+mod scale_counts;
+
 ghost use mathlib.Core.Path.{_≡_};
 ghost use lib.IntN.{pos};
-ghost use Rattle.refusals.specs.Outcome.{Gives};
+ghost use Rattle.refusals.specs.Outcome.{Gives, changed};
 ghost use Rattle.counts.specs.Answers.{countIn, durationIn, partsIn};
 ghost use Rattle.counts.specs.Units.{partsOf};
-ghost use Rattle.scales.specs.Answers.{gpsIn, utcIn, glonassIn, taiIn};
 ghost use Rattle.calendar.specs.Answers.{spanIn};
 ghost use Rattle.civil.specs.Fields.{fields};
 ghost use Rattle.conversions.specs.Answers.{unixIn};
 ghost use Rattle.tables.specs.Answers.{takenIn, lengthIn, emptyIn, entryIn, updateIn, offsetIn};
 ghost use Rattle.tables.specs.Entries.{entry, threshold};
 ghost use Rattle.builtin.specs.Events.{eventIn};
-ghost use Rattle.plaitgate.specs.Tables.{changed, bit, foundAs, foundEntry, foundCount};
+ghost use Rattle.plaitgate.specs.Tables.{bit, foundAs, foundEntry, foundCount};
 ghost use mathlib.Core.Option.{none};
 use builtin::events::EventAnswer;
 use calendar::SpanAnswer;
@@ -20,10 +21,6 @@ use conversions::UnixAnswer;
 use counts::CountAnswer;
 use counts::DurationAnswer;
 use counts::units::PartsAnswer;
-use scales::glonass::GlonassAnswer;
-use scales::gps::GpsAnswer;
-use scales::tai::TaiAnswer;
-use scales::utc::UtcAnswer;
 use tables::EmptyAnswer;
 use tables::EntryAnswer;
 use tables::LengthAnswer;
@@ -31,65 +28,12 @@ use tables::OffsetAnswer;
 use tables::Taken;
 use tables::UpdateAnswer;
 
-pub fn gps_count(answer: GpsAnswer, out: &mut u64) -> u32
-    ensures { λ r. ⌜ Gives 0 (gpsIn answer) r (now (out .exit)) ⌝ }
-{
-    match answer {
-        GpsAnswer::Count(t) => {
-            *out = t.0;
-            0
-        }
-        GpsAnswer::Refused(r) => {
-            *out = 0;
-            r.number()
-        }
-    }
-}
-
-pub fn utc_count(answer: UtcAnswer, out: &mut u64) -> u32
-    ensures { λ r. ⌜ Gives 0 (utcIn answer) r (now (out .exit)) ⌝ }
-{
-    match answer {
-        UtcAnswer::Count(t) => {
-            *out = t.0;
-            0
-        }
-        UtcAnswer::Refused(r) => {
-            *out = 0;
-            r.number()
-        }
-    }
-}
-
-pub fn glonass_count(answer: GlonassAnswer, out: &mut u64) -> u32
-    ensures { λ r. ⌜ Gives 0 (glonassIn answer) r (now (out .exit)) ⌝ }
-{
-    match answer {
-        GlonassAnswer::Count(t) => {
-            *out = t.0;
-            0
-        }
-        GlonassAnswer::Refused(r) => {
-            *out = 0;
-            r.number()
-        }
-    }
-}
-
-pub fn tai_count(answer: TaiAnswer, out: &mut u64) -> u32
-    ensures { λ r. ⌜ Gives 0 (taiIn answer) r (now (out .exit)) ⌝ }
-{
-    match answer {
-        TaiAnswer::Count(t) => {
-            *out = t.0;
-            0
-        }
-        TaiAnswer::Refused(r) => {
-            *out = 0;
-            r.number()
-        }
-    }
-}
+// every scale, by tools/write-scales
+pub use scale_counts::glonass_count;
+pub use scale_counts::gps_count;
+pub use scale_counts::tai_count;
+pub use scale_counts::utc_count;
+// end of every scale
 
 pub fn duration(answer: DurationAnswer, out: &mut i64) -> u32
     ensures { λ r. ⌜ Gives (pos 0) (durationIn answer) r (now (out .exit)) ⌝ }
@@ -108,7 +52,8 @@ pub fn duration(answer: DurationAnswer, out: &mut i64) -> u32
 }
 
 pub fn parts(answer: PartsAnswer, seconds: &mut u64, nanos: &mut u32) -> u32
-    ensures { λ r. ⌜ Gives (partsOf 0) (partsIn answer) r (record { seconds = now (seconds .exit); nanos = now (nanos .exit) }) ⌝ }
+    ensures { λ r. ⌜ Gives (partsOf 0) (partsIn answer) r
+        (record { seconds = now (seconds .exit); nanos = now (nanos .exit) }) ⌝ }
 {
     match answer {
         PartsAnswer::Parts(p) => {
@@ -124,7 +69,7 @@ pub fn parts(answer: PartsAnswer, seconds: &mut u64, nanos: &mut u32) -> u32
     }
 }
 
-pub fn plain_count(answer: CountAnswer, out: &mut u64) -> u32
+pub fn count(answer: CountAnswer, out: &mut u64) -> u32
     ensures { λ r. ⌜ Gives 0 (countIn answer) r (now (out .exit)) ⌝ }
 {
     match answer {
@@ -179,7 +124,8 @@ pub fn civil(
     second: &mut u8,
     nanos: &mut u32,
 )
-    ensures { λ _. ⌜ fields (now (year .exit)) (now (month .exit)) (now (day .exit)) (now (hour .exit)) (now (minute .exit)) (now (second .exit)) (now (nanos .exit)) ≡ c ⌝ }
+    ensures { λ _. ⌜ fields (now (year .exit)) (now (month .exit)) (now (day .exit)) (now (hour .exit))
+        (now (minute .exit)) (now (second .exit)) (now (nanos .exit)) ≡ c ⌝ }
 {
     let c_year = c.year;
     *year = c_year;
@@ -236,7 +182,8 @@ pub fn entry(
     tai_nanos: &mut u64,
     tai_minus_utc: &mut i32,
 ) -> u32
-    ensures { λ r. ⌜ Gives (foundEntry none) (changed foundEntry (entryIn answer)) r (foundAs (now (found .exit)) (entry (now («tai_nanos» .exit)) (now («tai_minus_utc» .exit)))) ⌝ }
+    ensures { λ r. ⌜ Gives (foundEntry none) (changed foundEntry (entryIn answer)) r
+        (foundAs (now (found .exit)) (entry (now («tai_nanos» .exit)) (now («tai_minus_utc» .exit)))) ⌝ }
 {
     match answer {
         EntryAnswer::Entry(e) => {
@@ -262,7 +209,8 @@ pub fn entry(
 }
 
 pub fn update(answer: UpdateAnswer, found: &mut u8, tai: &mut u64) -> u32
-    ensures { λ r. ⌜ Gives (foundCount none) (changed foundCount (updateIn answer)) r (foundAs (now (found .exit)) (now (tai .exit))) ⌝ }
+    ensures { λ r. ⌜ Gives (foundCount none) (changed foundCount (updateIn answer)) r
+        (foundAs (now (found .exit)) (now (tai .exit))) ⌝ }
 {
     match answer {
         UpdateAnswer::At(t) => {

@@ -1,17 +1,15 @@
-// GPS counts.
+// Written by tools/write-scales from its template in tools/templates.
+// GPS counts: what every scale has.
 ghost use mathlib.Core.Path.{_≡_};
-ghost use Prim.Native.Nat.{_+_, _*_, _/_, _%_};
+ghost use Prim.Native.Nat.{_*_, _/_};
 ghost use lib.IntN.{pos, _+ℤ_, _-ℤ_};
 ghost use Rattle.refusals.specs.Outcome.{Gives, answered};
 ghost use Rattle.counts.specs.Exact.{countOf, durationOf, nearestCount};
-ghost use Rattle.counts.specs.Units.{second, weekSeconds, partsOf, ofUnits};
-ghost use Rattle.scales.specs.Scales.{taiMinusGps};
+ghost use Rattle.counts.specs.Units.{second, partsOf};
 ghost use Rattle.plaitgate.specs.Limits.{limits, limitsAt};
 use crate::give;
 use counts::Duration;
-use counts::units::DurationParts;
 use scales::gps::Gps;
-use scales::tai::Tai;
 
 #[no_mangle]
 pub extern "C" fn plaitgate_gps_from_nanos(nanos: u64, count: &mut u64) -> u32
@@ -119,57 +117,4 @@ pub extern "C" fn plaitgate_gps_limits(
     *max = Gps::MAX.0;
     *nanos_per_year = Gps::NANOS_PER_YEAR;
     0
-}
-
-#[no_mangle]
-pub extern "C" fn plaitgate_gps_from_week_tow(
-    week: u32,
-    seconds: u64,
-    nanos: u32,
-    count: &mut u64,
-) -> u32
-    ensures { λ r. ⌜ Gives 0 (ofUnits weekSeconds week seconds nanos) r (now (count .exit)) ⌝ }
-{
-    give::gps_count(
-        Gps::from_week_tow(week, DurationParts { seconds, nanos }),
-        count,
-    )
-}
-
-#[no_mangle]
-pub extern "C" fn plaitgate_gps_week(count: u64, week: &mut u32) -> u32
-    ensures { λ r. ⌜ Gives 0 (answered (count / (weekSeconds * second))) r (now (week .exit)) ⌝ }
-{
-    *week = Gps(count).week();
-    0
-}
-
-#[no_mangle]
-pub extern "C" fn plaitgate_gps_tow_seconds(count: u64, seconds: &mut u32) -> u32
-    ensures { λ r. ⌜ Gives 0 (answered (count % (weekSeconds * second) / second)) r (now (seconds .exit)) ⌝ }
-{
-    *seconds = Gps(count).tow_seconds();
-    0
-}
-
-#[no_mangle]
-pub extern "C" fn plaitgate_gps_sub_second_nanos(count: u64, nanos: &mut u32) -> u32
-    ensures { λ r. ⌜ Gives 0 (answered (count % second)) r (now (nanos .exit)) ⌝ }
-{
-    *nanos = Gps(count).sub_second_nanos();
-    0
-}
-
-#[no_mangle]
-pub extern "C" fn plaitgate_gps_to_tai(count: u64, tai: &mut u64) -> u32
-    ensures { λ r. ⌜ Gives 0 (countOf (pos (count + taiMinusGps))) r (now (tai .exit)) ⌝ }
-{
-    give::tai_count(Gps(count).to_tai(), tai)
-}
-
-#[no_mangle]
-pub extern "C" fn plaitgate_gps_from_tai(tai: u64, count: &mut u64) -> u32
-    ensures { λ r. ⌜ Gives 0 (countOf (pos tai -ℤ pos taiMinusGps)) r (now (count .exit)) ⌝ }
-{
-    give::gps_count(Gps::from_tai(Tai(tai)), count)
 }

@@ -5,12 +5,12 @@ ghost use mathlib.Core.Option.{none};
 ghost use lib.Dec.{eqb};
 ghost use lib.IntN.{pos};
 ghost use lib.ListN.{length, getElem?};
-ghost use Rattle.refusals.specs.Outcome.{Gives, answered};
+ghost use Rattle.refusals.specs.Outcome.{Gives, answered, changed};
 ghost use Rattle.tables.specs.Entries.{entry, offsetAt, currentOffset, lastUpdate};
 ghost use Rattle.tables.specs.Slots.{tableOf};
 ghost use Rattle.images.specs.Image.{byImage, imageWritten, imageExtended};
 ghost use Rattle.builtin.specs.Builtin.{builtin};
-ghost use Rattle.plaitgate.specs.Tables.{leaves, imageBuilt, changed, bit, foundAs, foundEntry, foundCount};
+ghost use Rattle.plaitgate.specs.Tables.{leaves, imageBuilt, bit, foundAs, foundEntry, foundCount};
 use crate::give;
 use scales::tai::Tai;
 use tables::LeapTable;
@@ -20,14 +20,14 @@ use tables::Taken;
 pub extern "C" fn plaitgate_table_new(image: &mut [u8]) -> u32
     ensures { λ r. ⌜ leaves r (now (image .exit)) ≡ imageWritten (tableOf []) (now (image .entry)) ⌝ }
 {
-    give::taken(images::write(LeapTable::new(), image))
+    give::taken(images::table::write(LeapTable::new(), image))
 }
 
 #[no_mangle]
 pub extern "C" fn plaitgate_table_from_builtin(image: &mut [u8]) -> u32
     ensures { λ r. ⌜ leaves r (now (image .exit)) ≡ imageWritten (tableOf builtin) (now (image .entry)) ⌝ }
 {
-    give::taken(images::write(builtin::from_builtin(), image))
+    give::taken(images::table::write(builtin::from_builtin(), image))
 }
 
 // Entries of 12 bytes each; on a refusal of an entry the image is that of the empty table.
@@ -35,10 +35,10 @@ pub extern "C" fn plaitgate_table_from_builtin(image: &mut [u8]) -> u32
 pub extern "C" fn plaitgate_table_from_entries(entries: &[u8], image: &mut [u8]) -> u32
     ensures { λ r. ⌜ leaves r (now (image .exit)) ≡ imageBuilt (now (entries .entry)) (now (image .entry)) ⌝ }
 {
-    let built = images::build(entries);
+    let built = images::table::build(entries);
     let answer = built.answer;
     let table = built.table;
-    let written = images::write(table, image);
+    let written = images::table::write(table, image);
     if let Taken::Refused(why) = written {
         return why.number();
     }
@@ -51,23 +51,25 @@ pub extern "C" fn plaitgate_table_try_extend(
     tai_nanos: u64,
     tai_minus_utc: i32,
 ) -> u32
-    ensures { λ r. ⌜ leaves r (now (image .exit)) ≡ imageExtended (now (image .entry)) (entry «tai_nanos» «tai_minus_utc») ⌝ }
+    ensures { λ r. ⌜ leaves r (now (image .exit)) ≡
+        imageExtended (now (image .entry)) (entry «tai_nanos» «tai_minus_utc») ⌝ }
 {
-    give::taken(images::extend(image, tai_nanos, tai_minus_utc))
+    give::taken(images::table::extend(image, tai_nanos, tai_minus_utc))
 }
 
 #[no_mangle]
 pub extern "C" fn plaitgate_table_len(image: &[u8], len: &mut u64) -> u32
     ensures { λ r. ⌜ Gives 0 (byImage (now (image .entry)) (λ es. answered (length es))) r (now (len .exit)) ⌝ }
 {
-    give::length(inplace::len(image), len)
+    give::length(images::table::len(image), len)
 }
 
 #[no_mangle]
 pub extern "C" fn plaitgate_table_is_empty(image: &[u8], yes: &mut u8) -> u32
-    ensures { λ r. ⌜ Gives 0 (changed bit (byImage (now (image .entry)) (λ es. answered (eqb (length es) 0)))) r (now (yes .exit)) ⌝ }
+    ensures { λ r. ⌜ Gives 0 (changed bit (byImage (now (image .entry)) (λ es. answered (eqb (length es) 0)))) r
+        (now (yes .exit)) ⌝ }
 {
-    give::emptiness(inplace::is_empty(image), yes)
+    give::emptiness(images::table::is_empty(image), yes)
 }
 
 #[no_mangle]
@@ -78,10 +80,12 @@ pub extern "C" fn plaitgate_table_entry_at(
     tai_nanos: &mut u64,
     tai_minus_utc: &mut i32,
 ) -> u32
-    ensures { λ r. ⌜ Gives (foundEntry none) (changed foundEntry (byImage (now (image .entry)) (λ es. answered (getElem? es place)))) r (foundAs (now (found .exit)) (entry (now («tai_nanos» .exit)) (now («tai_minus_utc» .exit)))) ⌝ }
+    ensures { λ r. ⌜ Gives (foundEntry none)
+        (changed foundEntry (byImage (now (image .entry)) (λ es. answered (getElem? es place)))) r
+        (foundAs (now (found .exit)) (entry (now («tai_nanos» .exit)) (now («tai_minus_utc» .exit)))) ⌝ }
 {
     give::entry(
-        inplace::entry_at(image, place as usize),
+        images::table::entry_at(image, place as usize),
         found,
         tai_nanos,
         tai_minus_utc,
@@ -90,21 +94,25 @@ pub extern "C" fn plaitgate_table_entry_at(
 
 #[no_mangle]
 pub extern "C" fn plaitgate_table_last_update(image: &[u8], found: &mut u8, tai: &mut u64) -> u32
-    ensures { λ r. ⌜ Gives (foundCount none) (changed foundCount (byImage (now (image .entry)) (λ es. answered (lastUpdate es)))) r (foundAs (now (found .exit)) (now (tai .exit))) ⌝ }
+    ensures { λ r. ⌜ Gives (foundCount none)
+        (changed foundCount (byImage (now (image .entry)) (λ es. answered (lastUpdate es)))) r
+        (foundAs (now (found .exit)) (now (tai .exit))) ⌝ }
 {
-    give::update(inplace::last_update(image), found, tai)
+    give::update(images::table::last_update(image), found, tai)
 }
 
 #[no_mangle]
 pub extern "C" fn plaitgate_table_current_tai_minus_utc(image: &[u8], offset: &mut i32) -> u32
-    ensures { λ r. ⌜ Gives (pos 0) (byImage (now (image .entry)) (λ es. answered (currentOffset es))) r (now (offset .exit)) ⌝ }
+    ensures { λ r. ⌜ Gives (pos 0) (byImage (now (image .entry)) (λ es. answered (currentOffset es))) r
+        (now (offset .exit)) ⌝ }
 {
-    give::offset(inplace::current_tai_minus_utc(image), offset)
+    give::offset(images::table::current_tai_minus_utc(image), offset)
 }
 
 #[no_mangle]
 pub extern "C" fn plaitgate_table_tai_minus_utc_at(image: &[u8], tai: u64, offset: &mut i32) -> u32
-    ensures { λ r. ⌜ Gives (pos 0) (byImage (now (image .entry)) (λ es. answered (offsetAt es tai))) r (now (offset .exit)) ⌝ }
+    ensures { λ r. ⌜ Gives (pos 0) (byImage (now (image .entry)) (λ es. answered (offsetAt es tai))) r
+        (now (offset .exit)) ⌝ }
 {
-    give::offset(inplace::tai_minus_utc_at(image, Tai(tai)), offset)
+    give::offset(images::table::tai_minus_utc_at(image, Tai(tai)), offset)
 }

@@ -1,16 +1,22 @@
 // The library for hosts in other languages: every public call as a C function on numbers and bytes.
 // Each returns the refusal's number, 0 for an answer, and writes its results through references, zeros on a refusal.
 // include/plaitgate.h declares them.
+
+// every scale, by tools/write-scales
+pub mod glonass;
+pub mod gps;
+pub mod tai;
+pub mod utc;
+// end of every scale
 pub mod by_builtin;
 pub mod by_table;
 pub mod civil_dates;
 pub mod civil_times;
 pub mod durations;
 mod give;
-pub mod glonass;
-pub mod gps;
+pub mod glonass_days;
+pub mod gps_weeks;
 pub mod leap_events;
 pub mod leap_lists;
 pub mod leap_tables;
-pub mod tai;
-pub mod utc;
+pub mod utc_unix;

@@ -1,4 +1,5 @@
-// TAI counts.
+// Written by tools/write-scales from its template in tools/templates.
+// TAI counts: what every scale has.
 ghost use mathlib.Core.Path.{_≡_};
 ghost use Prim.Native.Nat.{_*_, _/_};
 ghost use lib.IntN.{pos, _+ℤ_, _-ℤ_};

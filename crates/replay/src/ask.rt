@@ -1,13 +1,20 @@
-// What the exported calls answer to a question of the recorded list. The list numbers the calls; its first lines name them.
+// What the exported calls answer to a question of the recorded list. The list numbers the calls; its first lines name
+// them.
+
+// every scale, by tools/write-scales
+mod glonass;
+mod gps;
+mod tai;
+mod utc;
+// end of every scale
 mod by_builtin;
 mod by_table;
 pub mod changes;
 mod dates;
-mod glonass;
-mod gps;
+mod glonass_days;
+mod gps_weeks;
 mod lists;
-mod tai;
-mod utc;
+mod unix_and_durations;
 
 use crate::reply::Question;
 use crate::reply::Reply;
@@ -18,9 +25,9 @@ pub fn ask(call: u64, q: Question) -> Reply {
         12..=22 => utc::counts(call - 11, q),
         23..=33 => glonass::counts(call - 22, q),
         34..=44 => tai::counts(call - 33, q),
-        45..=50 => gps::weeks(call - 44, q),
-        51..=56 => glonass::days(call - 50, q),
-        57..=63 => utc::unix_and_durations(call - 56, q),
+        45..=50 => gps_weeks::weeks(call - 44, q),
+        51..=56 => glonass_days::days(call - 50, q),
+        57..=63 => unix_and_durations::unix_and_durations(call - 56, q),
         64..=68 => dates::dates(call - 63, q),
         69..=73 => dates::times(call - 68, q),
         74..=82 => by_builtin::builtin(call - 73, q),

@@ -1,15 +1,21 @@
 // What the calls by value answer to a question of the recorded list: the port itself, with no C boundary.
+
+// every scale, by tools/write-scales
+mod glonass;
+mod gps;
+mod tai;
+mod utc;
+// end of every scale
 mod by_builtin;
 mod by_table;
 mod changes;
 mod dates;
 mod epochs;
-mod glonass;
-mod gps;
+mod glonass_days;
+mod gps_weeks;
 mod lists;
 mod said;
-mod tai;
-mod utc;
+mod unix_and_durations;
 
 use crate::reply::Question;
 use crate::reply::Reply;
@@ -20,9 +26,9 @@ pub fn ask(call: u64, q: Question) -> Reply {
         12..=22 => utc::counts(call - 11, q),
         23..=33 => glonass::counts(call - 22, q),
         34..=44 => tai::counts(call - 33, q),
-        45..=50 => gps::weeks(call - 44, q),
-        51..=56 => glonass::days(call - 50, q),
-        57..=63 => utc::unix_and_durations(call - 56, q),
+        45..=50 => gps_weeks::weeks(call - 44, q),
+        51..=56 => glonass_days::days(call - 50, q),
+        57..=63 => unix_and_durations::unix_and_durations(call - 56, q),
         64..=68 => dates::dates(call - 63, q),
         69..=73 => dates::times(call - 68, q),
         74..=82 => by_builtin::builtin(call - 73, q),

@@ -128,7 +128,8 @@ fn question(sizes: [u64; 16], signs: [u64; 16]) -> Question {
     }
 }
 
-// Whether a reply is what stands in a line from `at` on: the refusal's number, then the results, and after them nothing.
+// Whether a reply is what stands in a line from `at` on: the refusal's number, then the results, and after them
+// nothing.
 fn same(reply: Reply, sizes: [u64; 16], signs: [u64; 16], at: usize) -> bool {
     if 8 < at {
         return false;
@@ -144,7 +145,7 @@ fn same(reply: Reply, sizes: [u64; 16], signs: [u64; 16], at: usize) -> bool {
     number && minus && third_minus && first && second && third && last
 }
 
-// Where a line has the refusal's number: behind the call's number and its inputs.
+// Where a line has the refusal's number: after the call's number and its inputs.
 fn place_of_refusal(call: u64) -> usize {
     match call {
         11 | 22 | 33 | 44 => 1,

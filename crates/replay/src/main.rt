@@ -1,5 +1,5 @@
-// Replays recorded answers: reads the recorded list from standard input, asks each question of the exported call and of the
-// calls by value, and says with how many lines both agree and how many differ.
+// Replays recorded answers: reads the recorded list from standard input, asks each question of the exported call and of
+// the calls by value, and says with how many lines both agree and how many differ.
 mod ask;
 mod by_value;
 mod list;
@@ -27,7 +27,8 @@ fn take(reading: Reading, block: &[u8]) -> Reading {
     next
 }
 
-// A proved loop has to end, and nothing says that the input does: it counts its reads down, from a number that no run uses up.
+// A proved loop has to end, and nothing says that the input does: it counts its reads down, from a number that no run
+// uses up.
 fn read_all(block: &mut [u8]) -> Reading {
     let mut reading = Reading::new();
     let mut turns = u64::MAX;

@@ -2,12 +2,12 @@
 ghost use Prim.Native.Nat.{_+_, _≤_};
 ghost use lib.ListN.{length};
 use crate::reply::Question;
-use images::inner;
 use plaitgate::leap_tables::plaitgate_table_from_builtin;
 use plaitgate::leap_tables::plaitgate_table_new;
 use plaitgate::leap_tables::plaitgate_table_try_extend;
 use tables::LeapEntry;
 use tables::LeapTable;
+use words::inner;
 
 // The table of a number, written over an image of zeros.
 pub fn put(number: u64, image: &mut [u8; 776]) {
@@ -26,7 +26,7 @@ pub fn put(number: u64, image: &mut [u8; 776]) {
         5 => put_greatest(image),
         6 => put_too_long(image),
         _ => {
-            images::write(full(), image);
+            images::table::write(full(), image);
         }
     }
 }
@@ -82,7 +82,7 @@ pub fn table(number: u64) -> LeapTable {
 }
 
 fn table_in(image: &[u8; 776]) -> LeapTable {
-    let read = images::read(image);
+    let read = images::table::read(image);
     read.table
 }
 

@@ -70,7 +70,7 @@ impl Question {
 
 fn signed(size: u64, minus: bool) -> i64 {
     let answer = if minus && 0 < size {
-        sums::back_past(size - 1)
+        sums::backward(size - 1)
     } else {
         sums::forward(size)
     };

@@ -1,4 +1,5 @@
--- Each call on a lent list of entries leaves one refusal number, and one value behind each reference that it writes, for each input.
+-- Each call on a lent list of entries leaves one refusal number, and one value through each reference that it writes,
+-- for each input.
 use mathlib.Core.Path.{sym, _∙_}
 use denote.Ref.{now}
 use Rattle.refusals.proofs.OneAnswer.{OneAnswer, OneAnswerAndEnd, both}

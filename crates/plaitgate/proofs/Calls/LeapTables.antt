@@ -1,4 +1,5 @@
--- Each call on leap-second tables leaves one refusal number, and one value behind each reference that it writes, for each input.
+-- Each call on leap-second tables leaves one refusal number, and one value through each reference that it writes, for
+-- each input.
 use mathlib.Core.Path.{_≡_, sym, ap, _∙_}
 use mathlib.Core.List.{List}
 use Prim.Native.Nat.{ℕ}

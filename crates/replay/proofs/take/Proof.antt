@@ -2,46 +2,24 @@
 use Prim.Native.Nat.{_≤_, _-_}
 use borrow.Author.Needs.{needs}
 use lib.ListN.{length}
-use Rattle.replay.proofs.take.Statement.{statement}
-use Rattle.replay.proofs.take.Tie as tie
+use Rattle.replay.proofs.take as call
 
-abbrev Inv-loop : tie.InvT-loop
+abbrev Inv-loop : call.Tie.InvT-loop
 Inv-loop block next₀ i₀ next i = i ≤ length block
 
-abbrev μ-loop : tie.MeasureT-loop
+abbrev μ-loop : call.Tie.MeasureT-loop
 μ-loop block next₀ i₀ next i = length block - i
 
-loop-holds : tie.Need-loop-holds Inv-loop μ-loop
-loop-holds c = search needs
-
-shared-slice-read-byte : tie.Need-shared-slice-read-byte Inv-loop μ-loop
-shared-slice-read-byte c = search needs
-
-byte-requires : tie.Need-byte-requires Inv-loop μ-loop
-byte-requires c κs = search needs
-
-add-i : tie.Need-add-i Inv-loop μ-loop
-add-i c = search needs
-
-loop-less : tie.Need-loop-less Inv-loop μ-loop
-loop-less c = search needs
-
-loop-again : tie.Need-loop-again Inv-loop μ-loop
-loop-again c = search needs
-
-returns : tie.Need-returns Inv-loop μ-loop
-returns c = search needs
-
-pub take-spec : {M : Type 1} → statement M
+pub take-spec : {M : Type 1} → call.Statement.statement M
 take-spec =
-    tie.close
-    (tie.spec
+    call.Tie.close
+    (call.Tie.spec
     Inv-loop
     μ-loop
-    loop-holds
-    shared-slice-read-byte
-    byte-requires
-    add-i
-    loop-less
-    loop-again
-    returns)
+    (λ c. search needs)
+    (λ c. search needs)
+    (λ c κs. search needs)
+    (λ c. search needs)
+    (λ c. search needs)
+    (λ c. search needs)
+    (λ c. search needs))

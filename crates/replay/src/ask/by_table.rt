@@ -2,12 +2,12 @@
 use crate::numbered;
 use crate::reply::Question;
 use crate::reply::Reply;
-use plaitgate::by_table::plaitgate_glonass_to_gps;
-use plaitgate::by_table::plaitgate_gps_as_unix_seconds;
-use plaitgate::by_table::plaitgate_gps_from_unix_seconds;
-use plaitgate::by_table::plaitgate_gps_to_glonass;
-use plaitgate::by_table::plaitgate_gps_to_utc;
-use plaitgate::by_table::plaitgate_utc_to_gps;
+use plaitgate::by_table::plaitgate_table_glonass_to_gps;
+use plaitgate::by_table::plaitgate_table_gps_as_unix_seconds;
+use plaitgate::by_table::plaitgate_table_gps_from_unix_seconds;
+use plaitgate::by_table::plaitgate_table_gps_to_glonass;
+use plaitgate::by_table::plaitgate_table_gps_to_utc;
+use plaitgate::by_table::plaitgate_table_utc_to_gps;
 use plaitgate::leap_tables::plaitgate_table_current_tai_minus_utc;
 use plaitgate::leap_tables::plaitgate_table_entry_at;
 use plaitgate::leap_tables::plaitgate_table_is_empty;
@@ -29,32 +29,32 @@ fn conversions(call: u64, q: Question, image: &[u8; 776]) -> Reply {
     match call {
         1 => {
             let mut a: u64 = 1;
-            let number = plaitgate_gps_to_utc(q.y, image, &mut a);
+            let number = plaitgate_table_gps_to_utc(q.y, image, &mut a);
             Reply::one(number, a)
         }
         2 => {
             let mut a: u64 = 1;
-            let number = plaitgate_utc_to_gps(q.y, image, &mut a);
+            let number = plaitgate_table_utc_to_gps(q.y, image, &mut a);
             Reply::one(number, a)
         }
         3 => {
             let mut a: u64 = 1;
-            let number = plaitgate_glonass_to_gps(q.y, image, &mut a);
+            let number = plaitgate_table_glonass_to_gps(q.y, image, &mut a);
             Reply::one(number, a)
         }
         4 => {
             let mut a: u64 = 1;
-            let number = plaitgate_gps_to_glonass(q.y, image, &mut a);
+            let number = plaitgate_table_gps_to_glonass(q.y, image, &mut a);
             Reply::one(number, a)
         }
         5 => {
             let mut a: u64 = 1;
-            let number = plaitgate_gps_from_unix_seconds(q.duration(), image, &mut a);
+            let number = plaitgate_table_gps_from_unix_seconds(q.duration(), image, &mut a);
             Reply::one(number, a)
         }
         _ => {
             let mut a: i64 = 1;
-            let number = plaitgate_gps_as_unix_seconds(q.y, image, &mut a);
+            let number = plaitgate_table_gps_as_unix_seconds(q.y, image, &mut a);
             Reply::signed(number, a)
         }
     }

@@ -1,7 +1,7 @@
-// Questions about GLONASS counts.
+// Written by tools/write-scales from its template in tools/templates.
+// Questions about GLONASS counts: the calls that every scale has.
 use crate::reply::Question;
 use crate::reply::Reply;
-use crate::reply::low;
 use plaitgate::glonass::plaitgate_glonass_as_nanos;
 use plaitgate::glonass::plaitgate_glonass_as_parts;
 use plaitgate::glonass::plaitgate_glonass_as_seconds;
@@ -9,16 +9,10 @@ use plaitgate::glonass::plaitgate_glonass_checked_add;
 use plaitgate::glonass::plaitgate_glonass_checked_elapsed;
 use plaitgate::glonass::plaitgate_glonass_checked_from_seconds;
 use plaitgate::glonass::plaitgate_glonass_checked_sub_duration;
-use plaitgate::glonass::plaitgate_glonass_day;
-use plaitgate::glonass::plaitgate_glonass_day_of_week;
-use plaitgate::glonass::plaitgate_glonass_from_day_tod;
 use plaitgate::glonass::plaitgate_glonass_from_nanos;
-use plaitgate::glonass::plaitgate_glonass_is_weekend;
 use plaitgate::glonass::plaitgate_glonass_limits;
 use plaitgate::glonass::plaitgate_glonass_saturating_add;
 use plaitgate::glonass::plaitgate_glonass_saturating_sub_duration;
-use plaitgate::glonass::plaitgate_glonass_sub_second_nanos;
-use plaitgate::glonass::plaitgate_glonass_tod_seconds;
 
 pub fn counts(call: u64, q: Question) -> Reply {
     match call {
@@ -80,41 +74,6 @@ pub fn counts(call: u64, q: Question) -> Reply {
             let mut d: u64 = 1;
             let number = plaitgate_glonass_limits(&mut a, &mut b, &mut c, &mut d);
             Reply::four(number, a, b, c, d)
-        }
-    }
-}
-
-pub fn days(call: u64, q: Question) -> Reply {
-    match call {
-        1 => {
-            let mut a: u64 = 1;
-            let number = plaitgate_glonass_from_day_tod(low(q.x), q.y, low(q.z), &mut a);
-            Reply::one(number, a)
-        }
-        2 => {
-            let mut a: u32 = 1;
-            let number = plaitgate_glonass_day(q.x, &mut a);
-            Reply::one(number, a as u64)
-        }
-        3 => {
-            let mut a: u32 = 1;
-            let number = plaitgate_glonass_tod_seconds(q.x, &mut a);
-            Reply::one(number, a as u64)
-        }
-        4 => {
-            let mut a: u32 = 1;
-            let number = plaitgate_glonass_sub_second_nanos(q.x, &mut a);
-            Reply::one(number, a as u64)
-        }
-        5 => {
-            let mut a: u8 = 1;
-            let number = plaitgate_glonass_day_of_week(q.x, &mut a);
-            Reply::one(number, a as u64)
-        }
-        _ => {
-            let mut a: u8 = 1;
-            let number = plaitgate_glonass_is_weekend(q.x, &mut a);
-            Reply::one(number, a as u64)
         }
     }
 }

@@ -1,7 +1,7 @@
-// Questions about GPS counts.
+// Written by tools/write-scales from its template in tools/templates.
+// Questions about GPS counts: the calls that every scale has.
 use crate::reply::Question;
 use crate::reply::Reply;
-use crate::reply::low;
 use plaitgate::gps::plaitgate_gps_as_nanos;
 use plaitgate::gps::plaitgate_gps_as_parts;
 use plaitgate::gps::plaitgate_gps_as_seconds;
@@ -10,15 +10,9 @@ use plaitgate::gps::plaitgate_gps_checked_elapsed;
 use plaitgate::gps::plaitgate_gps_checked_from_seconds;
 use plaitgate::gps::plaitgate_gps_checked_sub_duration;
 use plaitgate::gps::plaitgate_gps_from_nanos;
-use plaitgate::gps::plaitgate_gps_from_tai;
-use plaitgate::gps::plaitgate_gps_from_week_tow;
 use plaitgate::gps::plaitgate_gps_limits;
 use plaitgate::gps::plaitgate_gps_saturating_add;
 use plaitgate::gps::plaitgate_gps_saturating_sub_duration;
-use plaitgate::gps::plaitgate_gps_sub_second_nanos;
-use plaitgate::gps::plaitgate_gps_to_tai;
-use plaitgate::gps::plaitgate_gps_tow_seconds;
-use plaitgate::gps::plaitgate_gps_week;
 
 pub fn counts(call: u64, q: Question) -> Reply {
     match call {
@@ -80,41 +74,6 @@ pub fn counts(call: u64, q: Question) -> Reply {
             let mut d: u64 = 1;
             let number = plaitgate_gps_limits(&mut a, &mut b, &mut c, &mut d);
             Reply::four(number, a, b, c, d)
-        }
-    }
-}
-
-pub fn weeks(call: u64, q: Question) -> Reply {
-    match call {
-        1 => {
-            let mut a: u64 = 1;
-            let number = plaitgate_gps_from_week_tow(low(q.x), q.y, low(q.z), &mut a);
-            Reply::one(number, a)
-        }
-        2 => {
-            let mut a: u32 = 1;
-            let number = plaitgate_gps_week(q.x, &mut a);
-            Reply::one(number, a as u64)
-        }
-        3 => {
-            let mut a: u32 = 1;
-            let number = plaitgate_gps_tow_seconds(q.x, &mut a);
-            Reply::one(number, a as u64)
-        }
-        4 => {
-            let mut a: u32 = 1;
-            let number = plaitgate_gps_sub_second_nanos(q.x, &mut a);
-            Reply::one(number, a as u64)
-        }
-        5 => {
-            let mut a: u64 = 1;
-            let number = plaitgate_gps_to_tai(q.x, &mut a);
-            Reply::one(number, a)
-        }
-        _ => {
-            let mut a: u64 = 1;
-            let number = plaitgate_gps_from_tai(q.x, &mut a);
-            Reply::one(number, a)
         }
     }
 }

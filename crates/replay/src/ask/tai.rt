@@ -1,4 +1,5 @@
-// Questions about TAI counts.
+// Written by tools/write-scales from its template in tools/templates.
+// Questions about TAI counts: the calls that every scale has.
 use crate::reply::Question;
 use crate::reply::Reply;
 use plaitgate::tai::plaitgate_tai_as_nanos;

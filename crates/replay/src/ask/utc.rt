@@ -1,22 +1,15 @@
-// Questions about UTC counts, Unix time and durations.
+// Written by tools/write-scales from its template in tools/templates.
+// Questions about UTC counts: the calls that every scale has.
 use crate::reply::Question;
 use crate::reply::Reply;
-use crate::reply::low;
-use plaitgate::durations::plaitgate_duration_as_nanos;
-use plaitgate::durations::plaitgate_duration_from_nanos;
-use plaitgate::durations::plaitgate_duration_parts_new;
 use plaitgate::utc::plaitgate_utc_as_nanos;
 use plaitgate::utc::plaitgate_utc_as_parts;
 use plaitgate::utc::plaitgate_utc_as_seconds;
-use plaitgate::utc::plaitgate_utc_as_unix_nanos;
-use plaitgate::utc::plaitgate_utc_as_unix_seconds;
 use plaitgate::utc::plaitgate_utc_checked_add;
 use plaitgate::utc::plaitgate_utc_checked_elapsed;
 use plaitgate::utc::plaitgate_utc_checked_from_seconds;
 use plaitgate::utc::plaitgate_utc_checked_sub_duration;
 use plaitgate::utc::plaitgate_utc_from_nanos;
-use plaitgate::utc::plaitgate_utc_from_unix_nanos;
-use plaitgate::utc::plaitgate_utc_from_unix_seconds;
 use plaitgate::utc::plaitgate_utc_limits;
 use plaitgate::utc::plaitgate_utc_saturating_add;
 use plaitgate::utc::plaitgate_utc_saturating_sub_duration;
@@ -81,47 +74,6 @@ pub fn counts(call: u64, q: Question) -> Reply {
             let mut d: u64 = 1;
             let number = plaitgate_utc_limits(&mut a, &mut b, &mut c, &mut d);
             Reply::four(number, a, b, c, d)
-        }
-    }
-}
-
-pub fn unix_and_durations(call: u64, q: Question) -> Reply {
-    match call {
-        1 => {
-            let mut a: u64 = 1;
-            let number = plaitgate_utc_from_unix_seconds(q.number(), &mut a);
-            Reply::one(number, a)
-        }
-        2 => {
-            let mut a: u64 = 1;
-            let number = plaitgate_utc_from_unix_nanos(q.number(), &mut a);
-            Reply::one(number, a)
-        }
-        3 => {
-            let mut a: i64 = 1;
-            let number = plaitgate_utc_as_unix_seconds(q.x, &mut a);
-            Reply::signed(number, a)
-        }
-        4 => {
-            let mut a: i64 = 1;
-            let number = plaitgate_utc_as_unix_nanos(q.x, &mut a);
-            Reply::signed(number, a)
-        }
-        5 => {
-            let mut a: u64 = 1;
-            let mut b: u32 = 1;
-            let number = plaitgate_duration_parts_new(q.x, low(q.y), &mut a, &mut b);
-            Reply::two(number, a, b as u64)
-        }
-        6 => {
-            let mut a: i64 = 1;
-            let number = plaitgate_duration_from_nanos(q.number(), &mut a);
-            Reply::signed(number, a)
-        }
-        _ => {
-            let mut a: i64 = 1;
-            let number = plaitgate_duration_as_nanos(q.number(), &mut a);
-            Reply::signed(number, a)
         }
     }
 }

@@ -5,10 +5,10 @@ use crate::reply::Question;
 use crate::reply::Reply;
 use lent::inner::copied::extended_in_place;
 use tables::EntryAnswer;
-use tables::Extension;
 use tables::LeapEntry;
 use tables::LeapTable;
 use tables::LengthAnswer;
+use tables::TableAnswer;
 use tables::Taken;
 
 pub fn changes(call: u64, q: Question) -> Reply {
@@ -17,7 +17,7 @@ pub fn changes(call: u64, q: Question) -> Reply {
     let mut lent = [0u8; 776];
     ask::changes::change(call, q, &mut lent);
     let mut own = [0u8; 776];
-    images::write(table, &mut own);
+    images::table::write(table, &mut own);
     if !same_bytes(&lent, &own) {
         return Reply::unknown();
     }
@@ -32,7 +32,7 @@ fn number_of(answer: Taken) -> u32 {
     }
 }
 
-fn change(call: u64, q: Question) -> Extension {
+fn change(call: u64, q: Question) -> TableAnswer {
     match call {
         1 => done(LeapTable::new()),
         2 => done(builtin::from_builtin()),
@@ -41,8 +41,9 @@ fn change(call: u64, q: Question) -> Extension {
     }
 }
 
-// Extended by value. Where extending in place gives another answer or another table, no line agrees with what comes back.
-fn extended(table: LeapTable, entry: LeapEntry) -> Extension {
+// Extended by value. Where extending in place gives another answer or another table, no line agrees with what comes
+// back.
+fn extended(table: LeapTable, entry: LeapEntry) -> TableAnswer {
     let grown = table.try_extend(entry);
     let answer = grown.answer;
     let by_value = grown.table;
@@ -50,9 +51,9 @@ fn extended(table: LeapTable, entry: LeapEntry) -> Extension {
     let other_answer = other.answer;
     let in_place = other.table;
     let mut one = [0u8; 776];
-    images::write(by_value, &mut one);
+    images::table::write(by_value, &mut one);
     let mut two = [0u8; 776];
-    images::write(in_place, &mut two);
+    images::table::write(in_place, &mut two);
     if number_of(answer) == number_of(other_answer) && same_bytes(&one, &two) {
         grown
     } else {
@@ -60,15 +61,15 @@ fn extended(table: LeapTable, entry: LeapEntry) -> Extension {
     }
 }
 
-fn done(table: LeapTable) -> Extension {
-    Extension {
+fn done(table: LeapTable) -> TableAnswer {
+    TableAnswer {
         answer: Taken::Done,
         table,
     }
 }
 
 // The table of the question's entries: none to three, or 65.
-fn from_lists(q: Question) -> Extension {
+fn from_lists(q: Question) -> TableAnswer {
     let mut thresholds = [0u64; 65];
     let mut offsets = [0i32; 65];
     thresholds[0] = q.y;

@@ -1,4 +1,6 @@
 // The answers of the calls by value, as the refusal's number and results.
+mod scale_counts;
+
 use crate::reply::Reply;
 use crate::year;
 use calendar::CivilDate;
@@ -10,10 +12,6 @@ use counts::Duration;
 use counts::DurationAnswer;
 use counts::units::DurationParts;
 use counts::units::PartsAnswer;
-use scales::glonass::GlonassAnswer;
-use scales::gps::GpsAnswer;
-use scales::tai::TaiAnswer;
-use scales::utc::UtcAnswer;
 use tables::EmptyAnswer;
 use tables::EntryAnswer;
 use tables::LengthAnswer;
@@ -21,33 +19,12 @@ use tables::OffsetAnswer;
 use tables::Taken;
 use tables::UpdateAnswer;
 
-pub fn gps(answer: GpsAnswer) -> Reply {
-    match answer {
-        GpsAnswer::Count(t) => Reply::one(0, t.0),
-        GpsAnswer::Refused(why) => Reply::refused(why),
-    }
-}
-
-pub fn utc(answer: UtcAnswer) -> Reply {
-    match answer {
-        UtcAnswer::Count(t) => Reply::one(0, t.0),
-        UtcAnswer::Refused(why) => Reply::refused(why),
-    }
-}
-
-pub fn glonass(answer: GlonassAnswer) -> Reply {
-    match answer {
-        GlonassAnswer::Count(t) => Reply::one(0, t.0),
-        GlonassAnswer::Refused(why) => Reply::refused(why),
-    }
-}
-
-pub fn tai(answer: TaiAnswer) -> Reply {
-    match answer {
-        TaiAnswer::Count(t) => Reply::one(0, t.0),
-        TaiAnswer::Refused(why) => Reply::refused(why),
-    }
-}
+// every scale, by tools/write-scales
+pub use scale_counts::glonass;
+pub use scale_counts::gps;
+pub use scale_counts::tai;
+pub use scale_counts::utc;
+// end of every scale
 
 pub fn count(answer: CountAnswer) -> Reply {
     match answer {

@@ -1,4 +1,5 @@
-// Questions about TAI counts, by value.
+// Written by tools/write-scales from its template in tools/templates.
+// Questions about TAI counts, by value: the calls that every scale has.
 use crate::by_value::said;
 use crate::reply::Question;
 use crate::reply::Reply;

@@ -1,11 +1,9 @@
-// Questions about UTC counts, Unix time and durations, by value.
+// Written by tools/write-scales from its template in tools/templates.
+// Questions about UTC counts, by value: the calls that every scale has.
 use crate::by_value::said;
 use crate::reply::Question;
 use crate::reply::Reply;
-use crate::reply::low;
 use counts::Duration;
-use counts::units::DurationParts;
-use scales::duration;
 use scales::utc::Utc;
 
 pub fn counts(call: u64, q: Question) -> Reply {
@@ -28,17 +26,4 @@ pub fn counts(call: u64, q: Question) -> Reply {
 
 fn limits() -> Reply {
     Reply::four(0, Utc::EPOCH.0, Utc::MIN.0, Utc::MAX.0, Utc::NANOS_PER_YEAR)
-}
-
-pub fn unix_and_durations(call: u64, q: Question) -> Reply {
-    let t = Utc(q.x);
-    match call {
-        1 => said::utc(Utc::from_unix_seconds(q.number())),
-        2 => said::utc(Utc::from_unix_nanos(q.number())),
-        3 => Reply::signed(0, t.as_unix_seconds()),
-        4 => Reply::signed(0, t.as_unix_nanos()),
-        5 => said::checked_parts(DurationParts::new(q.x, low(q.y))),
-        6 => said::lasting(duration::from_nanos(q.number())),
-        _ => Reply::signed(0, duration::as_nanos(Duration(q.number()))),
-    }
 }

@@ -1,17 +1,6 @@
--- `plaitgate_builtin_glonass_to_gps` meets its contract: the answer of the call, handed on.
-use borrow.Author.Needs.{needs}
-use Rattle.refusals.proofs.Given.{gives-same}
-use Rattle.plaitgate.proofs.by_builtin.plaitgate_builtin_glonass_to_gps.Statement.{statement}
-use Rattle.plaitgate.proofs.by_builtin.plaitgate_builtin_glonass_to_gps.Tie as tie
+-- `plaitgate_builtin_glonass_to_gps` gives a host what GLONASS to UTC, and then UTC to GPS, answers.
+use Rattle.plaitgate.proofs.by_builtin.plaitgate_builtin_glonass_to_gps as call
 
-glonass-to-gps-requires : tie.Need-glonass-to-gps-requires
-glonass-to-gps-requires c κs = search needs
-
-gps-count-requires : tie.Need-gps-count-requires
-gps-count-requires c κs = search needs
-
-returns : tie.Need-returns
-returns c = gives-same 0 (c .before .before .glonass-to-gps .ensures) (c .gps-count .ensures)
-
-pub plaitgate-builtin-glonass-to-gps-spec : {M : Type 1} → statement M
-plaitgate-builtin-glonass-to-gps-spec = tie.close (tie.spec glonass-to-gps-requires gps-count-requires returns)
+pub plaitgate-builtin-glonass-to-gps-spec : {M : Type 1} → call.Statement.statement M
+plaitgate-builtin-glonass-to-gps-spec =
+    call.Tie.close (call.Tie.spec (λ c κs. search) (λ c κs. search) (λ c κs. search) (λ c. (cc, cc)))

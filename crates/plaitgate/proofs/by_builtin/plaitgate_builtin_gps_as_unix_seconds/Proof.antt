@@ -1,18 +1,6 @@
--- `plaitgate_builtin_gps_as_unix_seconds` meets its contract: the answer of the call, handed on.
-use borrow.Author.Needs.{needs}
-use lib.IntN.{pos}
-use Rattle.refusals.proofs.Given.{gives-same}
-use Rattle.plaitgate.proofs.by_builtin.plaitgate_builtin_gps_as_unix_seconds.Statement.{statement}
-use Rattle.plaitgate.proofs.by_builtin.plaitgate_builtin_gps_as_unix_seconds.Tie as tie
+-- `plaitgate_builtin_gps_as_unix_seconds` gives a host what GPS to UTC, and then UTC to Unix seconds, answers.
+use Rattle.plaitgate.proofs.by_builtin.plaitgate_builtin_gps_as_unix_seconds as call
 
-gps-as-unix-seconds-requires : tie.Need-gps-as-unix-seconds-requires
-gps-as-unix-seconds-requires c κs = search needs
-
-unix-requires : tie.Need-unix-requires
-unix-requires c κs = search needs
-
-returns : tie.Need-returns
-returns c = gives-same (pos 0) (c .before .before .gps-as-unix-seconds .ensures) (c .unix .ensures)
-
-pub plaitgate-builtin-gps-as-unix-seconds-spec : {M : Type 1} → statement M
-plaitgate-builtin-gps-as-unix-seconds-spec = tie.close (tie.spec gps-as-unix-seconds-requires unix-requires returns)
+pub plaitgate-builtin-gps-as-unix-seconds-spec : {M : Type 1} → call.Statement.statement M
+plaitgate-builtin-gps-as-unix-seconds-spec =
+    call.Tie.close (call.Tie.spec (λ c κs. search) (λ c κs. search) (λ c κs. search) (λ c. (cc, cc)))

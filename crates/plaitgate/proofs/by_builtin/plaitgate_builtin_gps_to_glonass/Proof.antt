@@ -1,17 +1,6 @@
--- `plaitgate_builtin_gps_to_glonass` meets its contract: the answer of the call, handed on.
-use borrow.Author.Needs.{needs}
-use Rattle.refusals.proofs.Given.{gives-same}
-use Rattle.plaitgate.proofs.by_builtin.plaitgate_builtin_gps_to_glonass.Statement.{statement}
-use Rattle.plaitgate.proofs.by_builtin.plaitgate_builtin_gps_to_glonass.Tie as tie
+-- `plaitgate_builtin_gps_to_glonass` gives a host what GPS to UTC, and then UTC to GLONASS, answers.
+use Rattle.plaitgate.proofs.by_builtin.plaitgate_builtin_gps_to_glonass as call
 
-gps-to-glonass-requires : tie.Need-gps-to-glonass-requires
-gps-to-glonass-requires c κs = search needs
-
-glonass-count-requires : tie.Need-glonass-count-requires
-glonass-count-requires c κs = search needs
-
-returns : tie.Need-returns
-returns c = gives-same 0 (c .before .before .gps-to-glonass .ensures) (c .glonass-count .ensures)
-
-pub plaitgate-builtin-gps-to-glonass-spec : {M : Type 1} → statement M
-plaitgate-builtin-gps-to-glonass-spec = tie.close (tie.spec gps-to-glonass-requires glonass-count-requires returns)
+pub plaitgate-builtin-gps-to-glonass-spec : {M : Type 1} → call.Statement.statement M
+plaitgate-builtin-gps-to-glonass-spec =
+    call.Tie.close (call.Tie.spec (λ c κs. search) (λ c κs. search) (λ c κs. search) (λ c. (cc, cc)))

@@ -1,17 +1,8 @@
--- `plaitgate_builtin_gps_to_utc` meets its contract: the answer of the call, handed on.
-use borrow.Author.Needs.{needs}
+-- `plaitgate_builtin_gps_to_utc` gives a host what `builtin::inner::lookup::utc_from_gps` answers.
 use Rattle.refusals.proofs.Given.{gives-same}
-use Rattle.plaitgate.proofs.by_builtin.plaitgate_builtin_gps_to_utc.Statement.{statement}
-use Rattle.plaitgate.proofs.by_builtin.plaitgate_builtin_gps_to_utc.Tie as tie
+use Rattle.plaitgate.proofs.by_builtin.plaitgate_builtin_gps_to_utc as call
 
-gps-to-utc-requires : tie.Need-gps-to-utc-requires
-gps-to-utc-requires c κs = search needs
-
-utc-count-requires : tie.Need-utc-count-requires
-utc-count-requires c κs = search needs
-
-returns : tie.Need-returns
-returns c = gives-same 0 (c .before .before .gps-to-utc .ensures) (c .utc-count .ensures)
-
-pub plaitgate-builtin-gps-to-utc-spec : {M : Type 1} → statement M
-plaitgate-builtin-gps-to-utc-spec = tie.close (tie.spec gps-to-utc-requires utc-count-requires returns)
+pub plaitgate-builtin-gps-to-utc-spec : {M : Type 1} → call.Statement.statement M
+plaitgate-builtin-gps-to-utc-spec =
+    call.Tie.close (call.Tie.spec (λ c κs. search) (λ c κs. search)
+    (λ c. gives-same 0 (c .before .before .utc-from-gps .ensures) (c .count .ensures)))

@@ -1,17 +1,8 @@
--- `plaitgate_builtin_utc_to_gps` meets its contract: the answer of the call, handed on.
-use borrow.Author.Needs.{needs}
+-- `plaitgate_builtin_utc_to_gps` gives a host what `builtin::inner::by_utc::gps_from_utc` answers.
 use Rattle.refusals.proofs.Given.{gives-same}
-use Rattle.plaitgate.proofs.by_builtin.plaitgate_builtin_utc_to_gps.Statement.{statement}
-use Rattle.plaitgate.proofs.by_builtin.plaitgate_builtin_utc_to_gps.Tie as tie
+use Rattle.plaitgate.proofs.by_builtin.plaitgate_builtin_utc_to_gps as call
 
-utc-to-gps-requires : tie.Need-utc-to-gps-requires
-utc-to-gps-requires c κs = search needs
-
-gps-count-requires : tie.Need-gps-count-requires
-gps-count-requires c κs = search needs
-
-returns : tie.Need-returns
-returns c = gives-same 0 (c .before .before .utc-to-gps .ensures) (c .gps-count .ensures)
-
-pub plaitgate-builtin-utc-to-gps-spec : {M : Type 1} → statement M
-plaitgate-builtin-utc-to-gps-spec = tie.close (tie.spec utc-to-gps-requires gps-count-requires returns)
+pub plaitgate-builtin-utc-to-gps-spec : {M : Type 1} → call.Statement.statement M
+plaitgate-builtin-utc-to-gps-spec =
+    call.Tie.close (call.Tie.spec (λ c κs. search) (λ c κs. search)
+    (λ c. gives-same 0 (c .before .before .gps-from-utc .ensures) (c .count .ensures)))

@@ -1,17 +1,13 @@
--- `plaitgate_civil_date_new` meets its contract: the fields are handed on.
+-- `plaitgate_civil_date_new`: the fields are handed on.
 use mathlib.Core.Path.{refl, ap, _∙_}
 use native.Mathlib.Omega.{arith}
 use borrow.Author.Needs.{needs}
 use lib.IntN.{ℤ}
 use mir.Facts.{toZ-ofZ}
 use Rattle.calendar.specs.Calendar.{on}
-use Rattle.plaitgate.proofs.civil_dates.plaitgate_civil_date_new.Statement.{statement}
-use Rattle.plaitgate.proofs.civil_dates.plaitgate_civil_date_new.Tie as tie
+use Rattle.plaitgate.proofs.civil_dates.plaitgate_civil_date_new as call
 
-new-requires : tie.Need-new-requires
-new-requires c κs = search needs
-
-returns : tie.Need-returns
+returns : call.Tie.Need-returns
 returns c =
     let made = c .before .new .result in
     let start = c .before .before in (
@@ -21,5 +17,5 @@ returns c =
           ∙ ap (λ (y : ℤ). on y (start .args .month) (start .args .day)) (toZ-ofZ (start .fits .year)),
     )
 
-pub plaitgate-civil-date-new-spec : {M : Type 1} → statement M
-plaitgate-civil-date-new-spec = tie.close (tie.spec new-requires returns)
+pub plaitgate-civil-date-new-spec : {M : Type 1} → call.Statement.statement M
+plaitgate-civil-date-new-spec = call.Tie.close (call.Tie.spec (λ c κs. search needs) returns)

@@ -1,26 +1,18 @@
--- `plaitgate_civil_to_utc_nanos` meets its contract: the answer of the call, handed on.
+-- `plaitgate_civil_to_utc_nanos` gives a host what `CivilDateTime::to_utc_nanos` answers.
 use mathlib.Core.Path.{ap, _∙_}
-use borrow.Author.Needs.{needs}
 use lib.IntN.{ℤ}
 use Rattle.civil.specs.Fields.{fields, countAt}
 use mir.Facts.{toZ-ofZ}
 use Rattle.refusals.proofs.Given.{gives-same}
-use Rattle.plaitgate.proofs.civil_times.plaitgate_civil_to_utc_nanos.Statement.{statement}
-use Rattle.plaitgate.proofs.civil_times.plaitgate_civil_to_utc_nanos.Tie as tie
+use Rattle.plaitgate.proofs.civil_times.plaitgate_civil_to_utc_nanos as call
 
-to-utc-nanos-requires : tie.Need-to-utc-nanos-requires
-to-utc-nanos-requires c κs = search needs
-
-plain-count-requires : tie.Need-plain-count-requires
-plain-count-requires c κs = search needs
-
-returns : tie.Need-returns
+returns : call.Tie.Need-returns
 returns c =
     let start = c .before .before .before in
     gives-same 0
     (c .before .before .to-utc-nanos .ensures
     ∙ ap (λ (y : ℤ). countAt (fields y (start .args .month) (start .args .day) (start .args .hour) (start .args .minute) (start .args .second) (start .args .nanos))) (toZ-ofZ (start .fits .year)))
-    (c .plain-count .ensures)
+    (c .count .ensures)
 
-pub plaitgate-civil-to-utc-nanos-spec : {M : Type 1} → statement M
-plaitgate-civil-to-utc-nanos-spec = tie.close (tie.spec to-utc-nanos-requires plain-count-requires returns)
+pub plaitgate-civil-to-utc-nanos-spec : {M : Type 1} → call.Statement.statement M
+plaitgate-civil-to-utc-nanos-spec = call.Tie.close (call.Tie.spec (λ c κs. search) (λ c κs. search) returns)

@@ -1,19 +1,8 @@
--- `plaitgate_utc_to_civil` meets its contract: the fields of the call, handed on.
+-- `plaitgate_utc_to_civil` gives a host the fields that the call answers.
 use mathlib.Core.Path.{refl, _∙_}
-use borrow.Author.Needs.{needs}
-use Rattle.plaitgate.proofs.civil_times.plaitgate_utc_to_civil.Statement.{statement}
-use Rattle.plaitgate.proofs.civil_times.plaitgate_utc_to_civil.Tie as tie
+use Rattle.plaitgate.proofs.civil_times.plaitgate_utc_to_civil as call
 
-to-civil-requires : tie.Need-to-civil-requires
-to-civil-requires c κs = search needs
-
-civil-requires : tie.Need-civil-requires
-civil-requires c κs = search needs
-
-returns : tie.Need-returns
-returns c =
-    let called = c .before .before .before .before .before .before .before .before in
-    (refl, c .civil .ensures ∙ called .to-civil .ensures)
-
-pub plaitgate-utc-to-civil-spec : {M : Type 1} → statement M
-plaitgate-utc-to-civil-spec = tie.close (tie.spec to-civil-requires civil-requires returns)
+pub plaitgate-utc-to-civil-spec : {M : Type 1} → call.Statement.statement M
+plaitgate-utc-to-civil-spec =
+    call.Tie.close (call.Tie.spec (λ c κs. search) (λ c κs. search)
+    (λ c. (refl, c .civil .ensures ∙ c .before .before .before .before .before .before .before .before .to-civil .ensures)))

@@ -1,20 +1,10 @@
--- `plaitgate_duration_parts_new` meets its contract: the answer of the call, handed on.
+-- `plaitgate_duration_parts_new` gives a host what `DurationParts::new` answers.
 use Rattle.counts.specs.Units.{partsOf}
-use borrow.Author.Needs.{needs}
 use Rattle.refusals.proofs.Given.{gives-same}
-use Rattle.plaitgate.proofs.durations.plaitgate_duration_parts_new.Statement.{statement}
-use Rattle.plaitgate.proofs.durations.plaitgate_duration_parts_new.Tie as tie
+use Rattle.plaitgate.proofs.durations.plaitgate_duration_parts_new as call
 
-new-requires : tie.Need-new-requires
-new-requires c κs = search needs
+returns : call.Tie.Need-returns
+returns c = gives-same (partsOf 0) (c .before .before .before .new .ensures) (c .parts .ensures)
 
-parts-requires : tie.Need-parts-requires
-parts-requires c κs = search needs
-
-returns : tie.Need-returns
-returns c =
-    gives-same (partsOf 0) (c .before .before .before .new .ensures)
-    (c .parts .ensures)
-
-pub plaitgate-duration-parts-new-spec : {M : Type 1} → statement M
-plaitgate-duration-parts-new-spec = tie.close (tie.spec new-requires parts-requires returns)
+pub plaitgate-duration-parts-new-spec : {M : Type 1} → call.Statement.statement M
+plaitgate-duration-parts-new-spec = call.Tie.close (call.Tie.spec (λ c κs. search) (λ c κs. search) returns)

@@ -1,4 +1,4 @@
--- `give::duration` meets its contract, case by case.
+-- `give::duration`, case by case.
 use mathlib.Core.Path.{refl, sym, ap}
 use native.Mathlib.Omega.{arith}
 use borrow.Author.Needs.{needs}
@@ -6,25 +6,10 @@ use lib.IntN.{pos}
 use mir.Facts.{toZ-ofZ}
 use Rattle.refusals.proofs.Given.{gives-same}
 use Rattle.counts.specs.Answers.{durationIn}
-use Rattle.plaitgate.proofs.give.duration.Statement.{statement}
-use Rattle.plaitgate.proofs.give.duration.Tie as tie
+use Rattle.plaitgate.proofs.give.duration as call
 
-enum-known-answer : tie.Need-enum-known-answer
-enum-known-answer c = search needs
-
-enum-known-answer-2 : tie.Need-enum-known-answer-2
-enum-known-answer-2 c = search needs
-
-number-requires : tie.Need-number-requires
-number-requires c κs = search needs
-
-returns : tie.Need-returns
-returns c =
-    gives-same (pos 0) (ap durationIn (sym (c .before .before .answer .given .1))) (refl, toZ-ofZ (record { sfits = omega arith }))
-
-returns-2 : tie.Need-returns-2
-returns-2 c = search needs
-
-pub duration-spec : {M : Type 1} → statement M
+pub duration-spec : {M : Type 1} → call.Statement.statement M
 duration-spec =
-    tie.close (tie.spec enum-known-answer enum-known-answer-2 number-requires returns returns-2)
+    call.Tie.close (call.Tie.spec (λ c. search needs) (λ c. search needs) (λ c κs. search)
+    (λ c. gives-same (pos 0) (ap durationIn (sym (c .before .before .answer .given .1))) (refl, toZ-ofZ (record { sfits = omega arith })))
+    (λ c. search needs))

@@ -4,27 +4,18 @@ use Prim.Native.Nat.{ℕ}
 use lib.IntN.{ℤ}
 use borrow.Author.Needs.{needs}
 use mir.Facts.{toZ-ofZ}
-use Rattle.refusals.specs.Outcome.{Outcome, answered, refused}
+use Rattle.refusals.specs.Outcome.{Outcome, answered, refused, then, changed}
 use Rattle.refusals.proofs.Given.{gives-same}
 use Rattle.calendar.specs.Calendar.{on}
 use Rattle.tables.specs.Entries.{entry, threshold}
-use Rattle.conversions.specs.Conversions.{then}
 use Rattle.builtin.specs.Events.{eventThreshold, entryOfEvent}
-use Rattle.plaitgate.specs.Tables.{changed}
-use Rattle.plaitgate.proofs.leap_events.plaitgate_entry_of_event.Statement.{statement}
-use Rattle.plaitgate.proofs.leap_events.plaitgate_entry_of_event.Tie as tie
+use Rattle.plaitgate.proofs.leap_events.plaitgate_entry_of_event as call
 
 of-entry : (o : Outcome ℕ) (n : ℤ) → changed threshold (then o (λ t. answered (entry t n))) ≡ o
 of-entry (answered t) n = refl
 of-entry (refused k) n = refl
 
-entry-of-event-requires : tie.Need-entry-of-event-requires
-entry-of-event-requires c κs = search needs
-
-threshold-requires : tie.Need-threshold-requires
-threshold-requires c κs = search needs
-
-returns : tie.Need-returns
+returns : call.Tie.Need-returns
 returns c =
     let start = c .before .before .before in
     let a = start .args in
@@ -35,5 +26,5 @@ returns c =
     ∙ of-entry (eventThreshold (on (a .year) (a .month) (a .day)) (a .«tai-minus-utc»)) (a .«tai-minus-utc»))
     (c .threshold .ensures)
 
-pub plaitgate-entry-of-event-spec : {M : Type 1} → statement M
-plaitgate-entry-of-event-spec = tie.close (tie.spec entry-of-event-requires threshold-requires returns)
+pub plaitgate-entry-of-event-spec : {M : Type 1} → call.Statement.statement M
+plaitgate-entry-of-event-spec = call.Tie.close (call.Tie.spec (λ c κs. search needs) (λ c κs. search needs) returns)

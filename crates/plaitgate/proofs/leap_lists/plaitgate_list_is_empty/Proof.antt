@@ -1,19 +1,11 @@
--- `plaitgate_list_is_empty` meets its contract: the answer of the call, handed on.
+-- `plaitgate_list_is_empty` gives a host what `list::is_empty` answers.
 use mathlib.Core.Path.{ap}
-use borrow.Author.Needs.{needs}
 use Rattle.refusals.proofs.Given.{gives-same}
-use Rattle.plaitgate.specs.Tables.{changed, bit}
-use Rattle.plaitgate.proofs.leap_lists.plaitgate_list_is_empty.Statement.{statement}
-use Rattle.plaitgate.proofs.leap_lists.plaitgate_list_is_empty.Tie as tie
+use Rattle.refusals.specs.Outcome.{changed}
+use Rattle.plaitgate.specs.Tables.{bit}
+use Rattle.plaitgate.proofs.leap_lists.plaitgate_list_is_empty as call
 
-is-empty-requires : tie.Need-is-empty-requires
-is-empty-requires c κs = search needs
-
-emptiness-requires : tie.Need-emptiness-requires
-emptiness-requires c κs = search needs
-
-returns : tie.Need-returns
-returns c = gives-same 0 (ap (changed bit) (c .before .before .is-empty .ensures)) (c .emptiness .ensures)
-
-pub plaitgate-list-is-empty-spec : {M : Type 1} → statement M
-plaitgate-list-is-empty-spec = tie.close (tie.spec is-empty-requires emptiness-requires returns)
+pub plaitgate-list-is-empty-spec : {M : Type 1} → call.Statement.statement M
+plaitgate-list-is-empty-spec =
+    call.Tie.close (call.Tie.spec (λ c κs. search) (λ c κs. search)
+    (λ c. gives-same 0 (ap (changed bit) (c .before .before .is-empty .ensures)) (c .emptiness .ensures)))

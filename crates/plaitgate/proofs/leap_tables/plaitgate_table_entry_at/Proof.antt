@@ -1,20 +1,14 @@
--- `plaitgate_table_entry_at` meets its contract: the answer of the call, handed on.
-use borrow.Author.Needs.{needs}
+-- `plaitgate_table_entry_at` gives a host what `table::entry_at` answers.
 use mathlib.Core.Path.{ap}
 use mathlib.Core.Option.{none}
-use Rattle.plaitgate.specs.Tables.{changed, foundEntry}
+use Rattle.refusals.specs.Outcome.{changed}
+use Rattle.plaitgate.specs.Tables.{foundEntry}
 use Rattle.refusals.proofs.Given.{gives-same}
-use Rattle.plaitgate.proofs.leap_tables.plaitgate_table_entry_at.Statement.{statement}
-use Rattle.plaitgate.proofs.leap_tables.plaitgate_table_entry_at.Tie as tie
+use Rattle.plaitgate.proofs.leap_tables.plaitgate_table_entry_at as call
 
-entry-at-requires : tie.Need-entry-at-requires
-entry-at-requires c κs = search needs
+returns : call.Tie.Need-returns
+returns c =
+    gives-same (foundEntry none) (ap (changed foundEntry) (c .before .before .before .before .entry-at .ensures)) (c .entry .ensures)
 
-entry-requires : tie.Need-entry-requires
-entry-requires c κs = search needs
-
-returns : tie.Need-returns
-returns c = gives-same (foundEntry none) (ap (changed foundEntry) (c .before .before .before .before .entry-at .ensures)) (c .entry .ensures)
-
-pub plaitgate-table-entry-at-spec : {M : Type 1} → statement M
-plaitgate-table-entry-at-spec = tie.close (tie.spec entry-at-requires entry-requires returns)
+pub plaitgate-table-entry-at-spec : {M : Type 1} → call.Statement.statement M
+plaitgate-table-entry-at-spec = call.Tie.close (call.Tie.spec (λ c κs. search) (λ c κs. search) returns)

@@ -1,21 +1,14 @@
--- `plaitgate_table_last_update` meets its contract: the answer of the call, handed on.
-use borrow.Author.Needs.{needs}
+-- `plaitgate_table_last_update` gives a host what `table::last_update` answers.
 use mathlib.Core.Path.{ap}
 use mathlib.Core.Option.{none}
-use Rattle.plaitgate.specs.Tables.{changed, foundCount}
+use Rattle.refusals.specs.Outcome.{changed}
+use Rattle.plaitgate.specs.Tables.{foundCount}
 use Rattle.refusals.proofs.Given.{gives-same}
-use Rattle.plaitgate.proofs.leap_tables.plaitgate_table_last_update.Statement.{statement}
-use Rattle.plaitgate.proofs.leap_tables.plaitgate_table_last_update.Tie as tie
+use Rattle.plaitgate.proofs.leap_tables.plaitgate_table_last_update as call
 
-last-update-requires : tie.Need-last-update-requires
-last-update-requires c κs = search needs
+returns : call.Tie.Need-returns
+returns c =
+    gives-same (foundCount none) (ap (changed foundCount) (c .before .before .before .last-update .ensures)) (c .update .ensures)
 
-update-requires : tie.Need-update-requires
-update-requires c κs = search needs
-
-returns : tie.Need-returns
-returns c = gives-same (foundCount none) (ap (changed foundCount) (c .before .before .before .last-update .ensures)) (c .update .ensures)
-
-pub plaitgate-table-last-update-spec : {M : Type 1} → statement M
-plaitgate-table-last-update-spec =
-    tie.close (tie.spec last-update-requires update-requires returns)
+pub plaitgate-table-last-update-spec : {M : Type 1} → call.Statement.statement M
+plaitgate-table-last-update-spec = call.Tie.close (call.Tie.spec (λ c κs. search) (λ c κs. search) returns)

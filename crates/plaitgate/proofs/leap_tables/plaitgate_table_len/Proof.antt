@@ -1,17 +1,8 @@
--- `plaitgate_table_len` meets its contract: the answer of the call, handed on.
-use borrow.Author.Needs.{needs}
+-- `plaitgate_table_len` gives a host what `table::len` answers.
 use Rattle.refusals.proofs.Given.{gives-same}
-use Rattle.plaitgate.proofs.leap_tables.plaitgate_table_len.Statement.{statement}
-use Rattle.plaitgate.proofs.leap_tables.plaitgate_table_len.Tie as tie
+use Rattle.plaitgate.proofs.leap_tables.plaitgate_table_len as call
 
-len-requires : tie.Need-len-requires
-len-requires c κs = search needs
-
-length-requires : tie.Need-length-requires
-length-requires c κs = search needs
-
-returns : tie.Need-returns
-returns c = gives-same 0 (c .before .before .len .ensures) (c .length .ensures)
-
-pub plaitgate-table-len-spec : {M : Type 1} → statement M
-plaitgate-table-len-spec = tie.close (tie.spec len-requires length-requires returns)
+pub plaitgate-table-len-spec : {M : Type 1} → call.Statement.statement M
+plaitgate-table-len-spec =
+    call.Tie.close (call.Tie.spec (λ c κs. search) (λ c κs. search)
+    (λ c. gives-same 0 (c .before .before .len .ensures) (c .length .ensures)))

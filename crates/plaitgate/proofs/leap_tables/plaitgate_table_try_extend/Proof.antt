@@ -1,4 +1,4 @@
--- `plaitgate_table_try_extend` meets its contract: the extension of the image, handed on.
+-- `plaitgate_table_try_extend` gives a host what `table::extend` answers and leaves.
 use mathlib.Core.Path.{ap, _∙_}
 use Prim.Native.Nat.{ℕ}
 use borrow.Author.Needs.{needs}
@@ -7,19 +7,9 @@ use mir.Facts.{toZ-ofZ}
 use Rattle.tables.specs.Entries.{entry}
 use Rattle.images.specs.Image.{imageExtended}
 use Rattle.plaitgate.specs.Tables.{leaves}
-use Rattle.plaitgate.proofs.leap_tables.plaitgate_table_try_extend.Statement.{statement}
-use Rattle.plaitgate.proofs.leap_tables.plaitgate_table_try_extend.Tie as tie
+use Rattle.plaitgate.proofs.leap_tables.plaitgate_table_try_extend as call
 
-extend-requires : tie.Need-extend-requires
-extend-requires c κs = search needs
-
-taken-requires : tie.Need-taken-requires
-taken-requires c κs = search needs
-
-same-length : tie.Need-same-length
-same-length c = search needs
-
-returns : tie.Need-returns
+returns : call.Tie.Need-returns
 returns c =
     let called = c .before .before .before in
     let start = called .before .before .before in
@@ -27,11 +17,11 @@ returns c =
     ∙ called .extend .ensures
     ∙ ap (λ (z : ℤ). imageExtended (start .args .image .now) (entry (start .args .«tai-nanos») z)) (toZ-ofZ (start .fits .«tai-minus-utc»))
 
-pub plaitgate-table-try-extend-spec : {M : Type 1} → statement M
+pub plaitgate-table-try-extend-spec : {M : Type 1} → call.Statement.statement M
 plaitgate-table-try-extend-spec =
-    tie.close
-    (tie.spec
-    extend-requires
-    taken-requires
-    same-length
+    call.Tie.close
+    (call.Tie.spec
+    (λ c κs. search needs)
+    (λ c κs. search needs)
+    (λ c. search needs)
     returns)

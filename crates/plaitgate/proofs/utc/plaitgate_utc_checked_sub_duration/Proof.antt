@@ -1,24 +1,17 @@
--- `plaitgate_utc_checked_sub_duration` meets its contract: the answer of the call, handed on.
+-- Written by tools/write-scales from its template in tools/templates.
+-- `plaitgate_utc_checked_sub_duration` gives a host what `Utc::checked_sub_duration` answers.
 use mathlib.Core.Path.{ap, _∙_}
 use lib.IntN.{ℤ, pos, _-ℤ_}
 use Rattle.counts.specs.Exact.{countOf}
-use borrow.Author.Needs.{needs}
 use mir.Facts.{toZ-ofZ}
 use Rattle.refusals.proofs.Given.{gives-same}
-use Rattle.plaitgate.proofs.utc.plaitgate_utc_checked_sub_duration.Statement.{statement}
-use Rattle.plaitgate.proofs.utc.plaitgate_utc_checked_sub_duration.Tie as tie
+use Rattle.plaitgate.proofs.utc.plaitgate_utc_checked_sub_duration as call
 
-checked-sub-duration-requires : tie.Need-checked-sub-duration-requires
-checked-sub-duration-requires c κs = search needs
-
-utc-count-requires : tie.Need-utc-count-requires
-utc-count-requires c κs = search needs
-
-returns : tie.Need-returns
+returns : call.Tie.Need-returns
 returns c =
     gives-same 0 (c .before .before .checked-sub-duration .ensures
     ∙ ap (λ (z : ℤ). countOf (pos (c .before .before .before .args .count) -ℤ z)) (toZ-ofZ (c .before .before .before .fits .duration)))
     (c .utc-count .ensures)
 
-pub plaitgate-utc-checked-sub-duration-spec : {M : Type 1} → statement M
-plaitgate-utc-checked-sub-duration-spec = tie.close (tie.spec checked-sub-duration-requires utc-count-requires returns)
+pub plaitgate-utc-checked-sub-duration-spec : {M : Type 1} → call.Statement.statement M
+plaitgate-utc-checked-sub-duration-spec = call.Tie.close (call.Tie.spec (λ c κs. search) (λ c κs. search) returns)
