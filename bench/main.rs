@@ -1,4 +1,4 @@
-//! The port beside the crate gnss-time, in one process and on the same inputs. `bench/run` builds it and runs it.
+//! The port and the crate gnss-time, in one process and on the same inputs. `bench/run` builds it and runs it.
 
 mod counts;
 mod measure;

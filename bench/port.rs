@@ -27,8 +27,8 @@ extern "C" {
 
     fn plaitgate_builtin_gps_to_utc(gps: u64, utc: *mut u64) -> u32;
     fn plaitgate_builtin_utc_to_gps(utc: u64, gps: *mut u64) -> u32;
-    fn plaitgate_gps_to_utc(gps: u64, image: *const u8, image_bytes: usize, utc: *mut u64) -> u32;
-    fn plaitgate_utc_to_gps(utc: u64, image: *const u8, image_bytes: usize, gps: *mut u64) -> u32;
+    fn plaitgate_table_gps_to_utc(gps: u64, image: *const u8, image_bytes: usize, utc: *mut u64) -> u32;
+    fn plaitgate_table_utc_to_gps(utc: u64, image: *const u8, image_bytes: usize, gps: *mut u64) -> u32;
     fn plaitgate_table_from_builtin(image: *mut u8, image_bytes: usize) -> u32;
     fn plaitgate_table_len(image: *const u8, image_bytes: usize, len: *mut u64) -> u32;
 }
@@ -105,7 +105,7 @@ impl Image {
     pub fn gps_to_utc(&self, gps: u64) -> Answer<Time<Utc>> {
         let mut utc = 0;
         // SAFETY: the image is so long, and the result has a place
-        let refusal = unsafe { plaitgate_gps_to_utc(gps, self.0.as_ptr(), self.0.len(), &mut utc) };
+        let refusal = unsafe { plaitgate_table_gps_to_utc(gps, self.0.as_ptr(), self.0.len(), &mut utc) };
         answer(refusal, Time::from_nanos(utc))
     }
 
@@ -113,7 +113,7 @@ impl Image {
     pub fn utc_to_gps(&self, utc: u64) -> Answer<Time<Gps>> {
         let mut gps = 0;
         // SAFETY: the image is so long, and the result has a place
-        let refusal = unsafe { plaitgate_utc_to_gps(utc, self.0.as_ptr(), self.0.len(), &mut gps) };
+        let refusal = unsafe { plaitgate_table_utc_to_gps(utc, self.0.as_ptr(), self.0.len(), &mut gps) };
         answer(refusal, Time::from_nanos(gps))
     }
 

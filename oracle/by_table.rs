@@ -98,19 +98,19 @@ fn at<S: TimeScale>(count: u64) -> Time<S> {
 
 fn conversions() -> [Call; 6] {
     [
-        by_table!("gps_to_utc", (gps: u64) table () -> (utc: u64), gps_to_utc(at(gps), table),
+        by_table!("table_gps_to_utc", (gps: u64) table () -> (utc: u64), gps_to_utc(at(gps), table),
             tried on instants::gps, recorded on instants::recorded_gps),
-        by_table!("utc_to_gps", (utc: u64) table () -> (gps: u64), utc_to_gps(at(utc), table),
+        by_table!("table_utc_to_gps", (utc: u64) table () -> (gps: u64), utc_to_gps(at(utc), table),
             tried on instants::utc, recorded on instants::recorded_utc),
-        by_table!("glonass_to_gps", (glonass: u64) table () -> (gps: u64),
+        by_table!("table_glonass_to_gps", (glonass: u64) table () -> (gps: u64),
             glonass_to_gps(at::<Glonass>(glonass), table),
             tried on instants::glonass, recorded on instants::recorded_glonass),
-        by_table!("gps_to_glonass", (gps: u64) table () -> (glonass: u64), gps_to_glonass(at(gps), table),
+        by_table!("table_gps_to_glonass", (gps: u64) table () -> (glonass: u64), gps_to_glonass(at(gps), table),
             tried on instants::gps, recorded on instants::recorded_gps),
-        by_table!("gps_from_unix_seconds", (seconds: i64) table () -> (gps: u64),
+        by_table!("table_gps_from_unix_seconds", (seconds: i64) table () -> (gps: u64),
             Time::<Gps>::from_unix_seconds(seconds, table),
             tried on instants::unix, recorded on instants::recorded_unix),
-        by_table!("gps_as_unix_seconds", (gps: u64) table () -> (seconds: i64), at::<Gps>(gps).as_unix_seconds(table),
+        by_table!("table_gps_as_unix_seconds", (gps: u64) table () -> (seconds: i64), at::<Gps>(gps).as_unix_seconds(table),
             tried on instants::gps, recorded on instants::recorded_gps),
     ]
 }
@@ -261,14 +261,14 @@ fn written_over(number: i128, table: &RuntimeLeapSeconds) -> Outcome {
     Ok(words(&image(table.entries())))
 }
 
-/// Lends a copy of an image for change, and sees what is written there, and beside it.
+/// Lends a copy of an image for change, and sees what is written there, and around it.
 fn lend(number: i128, call: impl FnOnce(*mut u8, usize) -> u32) -> Written {
-    // the bytes before the image, an odd number of them, and those behind it, none of which may change
-    const BESIDE: [u8; 9] = [0xA5; 9];
+    // the bytes before the image, an odd number of them, and those after it, none of which may change
+    const AROUND: [u8; 9] = [0xA5; 9];
     let image = prepared(number).bytes();
-    let mut lent = [&BESIDE[..], image, &BESIDE[..]].concat();
-    let refusal = call(lent[BESIDE.len()..].as_mut_ptr(), image.len());
-    let (before, rest) = lent.split_at(BESIDE.len());
-    let (image, behind) = rest.split_at(image.len());
-    Written { refusal, results: words(image), spilled: before != BESIDE || behind != BESIDE }
+    let mut lent = [&AROUND[..], image, &AROUND[..]].concat();
+    let refusal = call(lent[AROUND.len()..].as_mut_ptr(), image.len());
+    let (before, rest) = lent.split_at(AROUND.len());
+    let (image, after) = rest.split_at(image.len());
+    Written { refusal, results: words(image), spilled: before != AROUND || after != AROUND }
 }

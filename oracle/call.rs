@@ -15,7 +15,7 @@ pub struct Written {
     /// The number of the refusal, 0 for an answer.
     pub refusal: u32,
     pub results: Vec<i128>,
-    /// A byte beside the places of the results was changed.
+    /// A byte next to the places of the results was changed.
     pub spilled: bool,
 }
 

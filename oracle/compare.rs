@@ -91,7 +91,7 @@ fn difference(call: &Call, inputs: &[i128], due: &Due, port: &Written) -> String
 fn said(call: &Call, written: &Written) -> String {
     let results: Vec<String> =
         call.results.iter().zip(&written.results).map(|((name, _), n)| format!("{name} = {n}")).collect();
-    let spilled = if written.spilled { ", and bytes beside the results" } else { "" };
+    let spilled = if written.spilled { ", and bytes next to the results" } else { "" };
     match written.refusal {
         0 => format!("answers {}{spilled}", results.join(", ")),
         refusal => format!("refuses by {refusal} and writes {}{spilled}", results.join(", ")),

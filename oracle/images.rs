@@ -30,22 +30,22 @@ pub const SHORT: i128 = 8;
 
 /// Bytes handed in as an image, and the table that the crate makes of their entries, where it takes them.
 pub struct Prepared {
-    /// The bytes, with one before them, so that they begin at an odd address, and some behind them.
+    /// The bytes, with one before them, so that they begin at an odd address, and some after them.
     lent: Vec<u8>,
     pub table: Option<RuntimeLeapSeconds>,
 }
 
-/// What stands behind the bytes: the offset that would follow the last of `row(0, 1, 19, RUNTIME_CAPACITY)`, so that
+/// What follows the bytes: the offset that would follow the last of `row(0, 1, 19, RUNTIME_CAPACITY)`, so that
 /// one who read past them would find a table of 65 entries there.
-const BEHIND: [u8; 4] = (19 + RUNTIME_CAPACITY as i32).to_le_bytes();
+const AFTER: [u8; 4] = (19 + RUNTIME_CAPACITY as i32).to_le_bytes();
 
 impl Prepared {
     fn new(bytes: &[u8]) -> Prepared {
-        Prepared { lent: [&[0xA5], bytes, &BEHIND].concat(), table: table_in(bytes) }
+        Prepared { lent: [&[0xA5], bytes, &AFTER].concat(), table: table_in(bytes) }
     }
 
     pub fn bytes(&self) -> &[u8] {
-        &self.lent[1..self.lent.len() - BEHIND.len()]
+        &self.lent[1..self.lent.len() - AFTER.len()]
     }
 
     pub fn entries(&self) -> &[LeapEntry] {
@@ -129,7 +129,7 @@ fn notable_tables() -> Vec<Vec<LeapEntry>> {
     tables
 }
 
-/// Images of every kind that hold no table, and two that hold one and more behind it.
+/// Images of every kind that hold no table, and two that hold one and more after it.
 fn notable_forgeries() -> Vec<Vec<u8>> {
     let builtin = image(LeapSeconds::builtin().entries());
     let full = image(&row(0, DAY, 19, RUNTIME_CAPACITY));
@@ -215,14 +215,14 @@ fn random_forgery(chance: &mut Chance) -> Vec<u8> {
     }
 }
 
-/// The image of entries, with zeros behind them.
+/// The image of entries, with zeros after them.
 pub fn image(entries: &[LeapEntry]) -> Vec<u8> {
     let mut bytes = vec![0; IMAGE_BYTES];
     put_entries(&mut bytes, entries);
     bytes
 }
 
-/// Writes entries and their number over an image, and leaves what is behind them.
+/// Writes entries and their number over an image, and leaves what follows them.
 pub fn put_entries(bytes: &mut [u8], entries: &[LeapEntry]) {
     bytes[..8].copy_from_slice(&(entries.len() as u64).to_le_bytes());
     for (place, entry) in entries.iter().enumerate() {

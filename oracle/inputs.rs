@@ -24,7 +24,7 @@ fn marks() -> Vec<i128> {
         let nanos = seconds * NANOS_PER_SECOND;
         marks.extend([seconds, nanos]);
         for greatest in [i128::from(u64::MAX), i128::from(i64::MAX)] {
-            // the last whole unit, what is left behind it, and the greatest that can still be moved by the unit
+            // the last whole unit, what is left after it, and the greatest that can still be moved by the unit
             let left = greatest % nanos;
             marks.extend([greatest / nanos, greatest - left, left, left / NANOS_PER_SECOND, greatest - nanos]);
             marks.push(greatest / NANOS_PER_SECOND + seconds);

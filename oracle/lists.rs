@@ -118,7 +118,7 @@ fn changed(chance: &mut Chance) -> Vec<u8> {
     list(&entries)
 }
 
-/// Changes one number of an entry behind the first.
+/// Changes one number of an entry after the first.
 fn change(entries: &mut [LeapEntry], chance: &mut Chance) {
     if entries.len() < 2 {
         return;
@@ -156,7 +156,7 @@ pub fn each(_: &'static [Named]) -> Trials {
     }
 }
 
-/// A list and a TAI reading: at each threshold of the list, one before and one behind it, and any.
+/// A list and a TAI reading: at each threshold of the list, one before and one after it, and any.
 pub fn with_readings(_: &'static [Named]) -> Trials {
     let around = |number: usize| {
         let entries = lent(number as i128).entries.unwrap_or(&[]);

@@ -44,8 +44,8 @@ numbers! {
     i64, "int64_t";
 }
 
-/// Where the port writes one result. It starts as a pattern, with more of it before and behind, so that a
-/// result left unwritten shows, and so does a write beside it.
+/// Where the port writes one result. It starts as a pattern, with more of it before and after, so that a
+/// result left unwritten shows, and so does a write next to it.
 pub struct Place([u64; 3]);
 
 const UNWRITTEN: u64 = 0xA5A5_A5A5_A5A5_A5A5;
@@ -68,7 +68,7 @@ impl Place {
     pub fn spilled<N: Number>(&self) -> bool {
         let own_bits = 8 * std::mem::size_of::<N>() as u32;
         let rest = u64::MAX.checked_shl(own_bits).unwrap_or(0);
-        let [before, at, behind] = self.0;
-        before != UNWRITTEN || behind != UNWRITTEN || at & rest != UNWRITTEN & rest
+        let [before, at, after] = self.0;
+        before != UNWRITTEN || after != UNWRITTEN || at & rest != UNWRITTEN & rest
     }
 }

@@ -95,8 +95,17 @@ fn legend(asked: &[Asked]) -> String {
     legend
 }
 
+/// The name by which the inputs of a question are drawn. The conversions by a table were recorded before their names
+/// began with `table_`: drawn by the rest of the name, the recorded list stays as it is.
+fn drawn_by(name: &str) -> &str {
+    match name.strip_prefix("table_") {
+        Some(conversion) if conversion.contains("_to_") || conversion.contains("unix") => conversion,
+        _ => name,
+    }
+}
+
 fn sample(asked: &Asked) -> Vec<Vec<i128>> {
-    let mut chance = Chance::of(asked.name, SEED);
+    let mut chance = Chance::of(drawn_by(asked.name), SEED);
     let drawn: Vec<Vec<i128>> = (0..RANDOMS).map(|_| (asked.trials.draw)(&mut chance)).collect();
     asked.trials.groups.iter().flat_map(|group| sample_of_group(asked, group)).chain(drawn).collect()
 }

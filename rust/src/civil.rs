@@ -75,7 +75,7 @@ pub struct CivilDateTime {
 }
 
 impl CivilDateTime {
-    /// The date and the time of day of so many nanoseconds since 1972-01-01. Every number has one: this is a `Result`
+    /// The date and the time of day of a UTC count. Every number has one: this is a `Result`
     /// because it is one in gnss-time.
     pub fn from_utc_nanos(nanos: u64) -> Result<Self> {
         sys::civil_from_utc_nanos(nanos).map(Self::of_fields)

@@ -69,7 +69,7 @@ impl Duration {
     pub const ONE_NANOSECOND: Self = Duration(1);
     pub const ONE_SECOND: Self = Duration(NANOS_PER_SECOND);
 
-    /// The duration of so many nanoseconds.
+    /// The duration of a number of nanoseconds.
     #[inline]
     pub const fn from_nanos(nanos: i64) -> Self {
         Duration(nanos)

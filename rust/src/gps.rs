@@ -59,7 +59,7 @@ impl Gps {
         gps_to_utc(self, table)
     }
 
-    /// The GPS count of so many seconds since 1970-01-01, by way of UTC.
+    /// The GPS count of seconds since 1970-01-01, by way of UTC.
     ///
     /// ```
     /// use plaitgate::{Gps, LeapSeconds};

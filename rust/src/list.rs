@@ -4,7 +4,7 @@ use crate::sys::{self, always};
 use crate::{Result, Tai};
 
 /// A list of entries, of any length, where the rack holds it: 12 bytes for each, 8 of the threshold and 4 of the offset,
-/// low byte first. It is checked once, and looked up where it lies; nothing is copied.
+/// low byte first. It is checked once, and looked up in place; nothing is copied.
 ///
 /// ```
 /// use plaitgate::{Error, LeapEntry, LeapList, Tai};

@@ -3,7 +3,7 @@
 use crate::sys::{self, always};
 use crate::{Duration, Result};
 
-/// What every scale has. The names behind `by` are the library's functions for it.
+/// What every scale has. The names after `by` are the library's functions for it.
 macro_rules! scale {
     ($(#[$about:meta])* $Scale:ident, by $checked_from_seconds:ident, $as_seconds:ident, $as_parts:ident,
         $checked_add:ident, $checked_sub_duration:ident, $saturating_add:ident, $saturating_sub_duration:ident,
@@ -23,7 +23,7 @@ macro_rules! scale {
             /// The nanoseconds of 365 days.
             pub const NANOS_PER_YEAR: u64 = 365 * 86_400 * 1_000_000_000;
 
-            /// The count of so many nanoseconds since the epoch.
+            /// The count of nanoseconds since the epoch.
             #[inline]
             pub const fn from_nanos(nanos: u64) -> Self {
                 $Scale(nanos)
@@ -36,7 +36,7 @@ macro_rules! scale {
                 self.0
             }
 
-            /// The count of so many seconds since the epoch; none above 18,446,744,073 s.
+            /// The count of seconds since the epoch; none above 18,446,744,073 s.
             #[inline]
             #[must_use]
             pub fn checked_from_seconds(seconds: u64) -> Option<Self> {

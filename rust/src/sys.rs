@@ -106,6 +106,7 @@ macro_rules! of_bytes {
 }
 
 of_numbers! {
+    // every scale, by tools/write-scales
     gps_from_nanos(nanos: u64) -> (count: u64);
     gps_as_nanos(count: u64) -> (nanos: u64);
     gps_checked_from_seconds(seconds: u64) -> (count: u64);
@@ -117,13 +118,6 @@ of_numbers! {
     gps_saturating_sub_duration(count: u64, duration: i64) -> (difference: u64);
     gps_checked_elapsed(count: u64, earlier: u64) -> (duration: i64);
     gps_limits() -> (epoch: u64, min: u64, max: u64, nanos_per_year: u64);
-    gps_from_week_tow(week: u32, seconds: u64, nanos: u32) -> (count: u64);
-    gps_week(count: u64) -> (week: u32);
-    gps_tow_seconds(count: u64) -> (seconds: u32);
-    gps_sub_second_nanos(count: u64) -> (nanos: u32);
-    gps_to_tai(count: u64) -> (tai: u64);
-    gps_from_tai(tai: u64) -> (count: u64);
-
     utc_from_nanos(nanos: u64) -> (count: u64);
     utc_as_nanos(count: u64) -> (nanos: u64);
     utc_checked_from_seconds(seconds: u64) -> (count: u64);
@@ -135,11 +129,6 @@ of_numbers! {
     utc_saturating_sub_duration(count: u64, duration: i64) -> (difference: u64);
     utc_checked_elapsed(count: u64, earlier: u64) -> (duration: i64);
     utc_limits() -> (epoch: u64, min: u64, max: u64, nanos_per_year: u64);
-    utc_from_unix_seconds(seconds: i64) -> (count: u64);
-    utc_from_unix_nanos(nanos: i64) -> (count: u64);
-    utc_as_unix_seconds(count: u64) -> (seconds: i64);
-    utc_as_unix_nanos(count: u64) -> (nanos: i64);
-
     glonass_from_nanos(nanos: u64) -> (count: u64);
     glonass_as_nanos(count: u64) -> (nanos: u64);
     glonass_checked_from_seconds(seconds: u64) -> (count: u64);
@@ -151,13 +140,6 @@ of_numbers! {
     glonass_saturating_sub_duration(count: u64, duration: i64) -> (difference: u64);
     glonass_checked_elapsed(count: u64, earlier: u64) -> (duration: i64);
     glonass_limits() -> (epoch: u64, min: u64, max: u64, nanos_per_year: u64);
-    glonass_from_day_tod(day: u32, seconds: u64, nanos: u32) -> (count: u64);
-    glonass_day(count: u64) -> (day: u32);
-    glonass_tod_seconds(count: u64) -> (seconds: u32);
-    glonass_sub_second_nanos(count: u64) -> (nanos: u32);
-    glonass_day_of_week(count: u64) -> (weekday: u8);
-    glonass_is_weekend(count: u64) -> (yes: u8);
-
     tai_from_nanos(nanos: u64) -> (count: u64);
     tai_as_nanos(count: u64) -> (nanos: u64);
     tai_checked_from_seconds(seconds: u64) -> (count: u64);
@@ -169,6 +151,26 @@ of_numbers! {
     tai_saturating_sub_duration(count: u64, duration: i64) -> (difference: u64);
     tai_checked_elapsed(count: u64, earlier: u64) -> (duration: i64);
     tai_limits() -> (epoch: u64, min: u64, max: u64, nanos_per_year: u64);
+    // end of every scale
+
+    gps_from_week_tow(week: u32, seconds: u64, nanos: u32) -> (count: u64);
+    gps_week(count: u64) -> (week: u32);
+    gps_tow_seconds(count: u64) -> (seconds: u32);
+    gps_sub_second_nanos(count: u64) -> (nanos: u32);
+    gps_to_tai(count: u64) -> (tai: u64);
+    gps_from_tai(tai: u64) -> (count: u64);
+
+    utc_from_unix_seconds(seconds: i64) -> (count: u64);
+    utc_from_unix_nanos(nanos: i64) -> (count: u64);
+    utc_as_unix_seconds(count: u64) -> (seconds: i64);
+    utc_as_unix_nanos(count: u64) -> (nanos: i64);
+
+    glonass_from_day_tod(day: u32, seconds: u64, nanos: u32) -> (count: u64);
+    glonass_day(count: u64) -> (day: u32);
+    glonass_tod_seconds(count: u64) -> (seconds: u32);
+    glonass_sub_second_nanos(count: u64) -> (nanos: u32);
+    glonass_day_of_week(count: u64) -> (weekday: u8);
+    glonass_is_weekend(count: u64) -> (yes: u8);
 
     duration_parts_new(seconds: u64, nanos: u32) -> (parts_seconds: u64, parts_nanos: u32);
     duration_from_nanos(nanos: i64) -> (duration: i64);
@@ -210,12 +212,12 @@ of_bytes! { declared_of_images:
     table_last_update()(image: &Image)() -> (found: u8, tai: u64);
     table_current_tai_minus_utc()(image: &Image)() -> (offset: i32);
     table_tai_minus_utc_at()(image: &Image)(tai: u64) -> (offset: i32);
-    gps_to_utc(gps: u64)(image: &Image)() -> (utc: u64);
-    utc_to_gps(utc: u64)(image: &Image)() -> (gps: u64);
-    glonass_to_gps(glonass: u64)(image: &Image)() -> (gps: u64);
-    gps_to_glonass(gps: u64)(image: &Image)() -> (glonass: u64);
-    gps_from_unix_seconds(seconds: i64)(image: &Image)() -> (gps: u64);
-    gps_as_unix_seconds(gps: u64)(image: &Image)() -> (seconds: i64);
+    table_gps_to_utc(gps: u64)(image: &Image)() -> (utc: u64);
+    table_utc_to_gps(utc: u64)(image: &Image)() -> (gps: u64);
+    table_glonass_to_gps(glonass: u64)(image: &Image)() -> (gps: u64);
+    table_gps_to_glonass(gps: u64)(image: &Image)() -> (glonass: u64);
+    table_gps_from_unix_seconds(seconds: i64)(image: &Image)() -> (gps: u64);
+    table_gps_as_unix_seconds(gps: u64)(image: &Image)() -> (seconds: i64);
 }
 
 of_bytes! { declared_of_lists:

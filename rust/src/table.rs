@@ -59,7 +59,7 @@ impl LeapEntry {
 /// A leap-second table of up to 64 entries, which a rack keeps and extends itself.
 ///
 /// It is always valid: thresholds rise, offsets rise by one. It holds its image, 776 bytes that can be stored and read
-/// back with [`from_image`](LeapTable::from_image), and no memory beside.
+/// back with [`from_image`](LeapTable::from_image), and no other memory.
 ///
 /// ```
 /// use plaitgate::{CivilDate, Error, LeapEntry, LeapTable};
@@ -221,7 +221,7 @@ impl fmt::Debug for LeapTable {
     }
 }
 
-/// The built-in table where it lies, in the library: conversions by it copy nothing.
+/// The built-in table, which stands in the library: conversions by it copy nothing.
 ///
 /// ```
 /// use plaitgate::{LeapSeconds, Tai};
@@ -276,7 +276,7 @@ mod by_table {
 
     /// The conversions on plain counts, by the table at hand.
     macro_rules! conversions {
-        ($($name:ident by $builtin:ident: $given:ty => $result:ty;)*) => {
+        ($($name:ident by $table:ident, $builtin:ident: $given:ty => $result:ty;)*) => {
             pub trait Conversions {
                 $(fn $name(&self, given: $given) -> Result<$result>;)*
             }
@@ -285,7 +285,7 @@ mod by_table {
                 $(
                     #[inline]
                     fn $name(&self, given: $given) -> Result<$result> {
-                        sys::$name(given, &self.image)
+                        sys::$table(given, &self.image)
                     }
                 )*
             }
@@ -311,11 +311,11 @@ mod by_table {
     }
 
     conversions! {
-        gps_to_utc by builtin_gps_to_utc: u64 => u64;
-        utc_to_gps by builtin_utc_to_gps: u64 => u64;
-        glonass_to_gps by builtin_glonass_to_gps: u64 => u64;
-        gps_to_glonass by builtin_gps_to_glonass: u64 => u64;
-        gps_from_unix_seconds by builtin_gps_from_unix_seconds: i64 => u64;
-        gps_as_unix_seconds by builtin_gps_as_unix_seconds: u64 => i64;
+        gps_to_utc by table_gps_to_utc, builtin_gps_to_utc: u64 => u64;
+        utc_to_gps by table_utc_to_gps, builtin_utc_to_gps: u64 => u64;
+        glonass_to_gps by table_glonass_to_gps, builtin_glonass_to_gps: u64 => u64;
+        gps_to_glonass by table_gps_to_glonass, builtin_gps_to_glonass: u64 => u64;
+        gps_from_unix_seconds by table_gps_from_unix_seconds, builtin_gps_from_unix_seconds: i64 => u64;
+        gps_as_unix_seconds by table_gps_as_unix_seconds, builtin_gps_as_unix_seconds: u64 => i64;
     }
 }

@@ -4,13 +4,13 @@ use crate::sys::{self, always};
 use crate::{utc_to_gps, CivilDateTime, Gps, LeapSeconds, LeapSecondsProvider, Result, Utc};
 
 impl Utc {
-    /// The count of so many seconds since 1970-01-01. Refuses with [`Overflow`](crate::Error::Overflow) below
+    /// The count of seconds since 1970-01-01. Refuses with [`Overflow`](crate::Error::Overflow) below
     /// 63,072,000 s, which is 1972-01-01, and above 18,509,816,073 s.
     pub fn from_unix_seconds(unix_seconds: i64) -> Result<Self> {
         sys::utc_from_unix_seconds(unix_seconds).map(Utc)
     }
 
-    /// The count of so many nanoseconds since 1970-01-01. Refuses with [`Overflow`](crate::Error::Overflow) before
+    /// The count of nanoseconds since 1970-01-01. Refuses with [`Overflow`](crate::Error::Overflow) before
     /// 1972-01-01.
     pub fn from_unix_nanos(unix_nanos: i64) -> Result<Self> {
         sys::utc_from_unix_nanos(unix_nanos).map(Utc)

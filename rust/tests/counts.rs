@@ -78,7 +78,7 @@ fn durations_at_their_ends() {
     assert!(least.is_negative() && largest.is_positive() && Duration::ZERO.is_zero());
 }
 
-/// Numbers that are spread over all of 64 bits, and those beside the ends.
+/// Numbers that are spread over all of 64 bits, and those next to the ends.
 fn spread() -> impl Iterator<Item = u64> {
     let step = 0x9e37_79b9_7f4a_7c15_u64;
     (0..2_000).map(move |k: u64| k.wrapping_mul(step)).chain([0, 1, u64::MAX - 1, u64::MAX])

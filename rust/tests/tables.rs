@@ -120,7 +120,7 @@ fn forged_images_are_refused_by_8() {
     assert_eq!(LeapTable::from_image([0xff; 776]), bad);
     assert_eq!(forged(0, 65), bad, "more than 64 entries");
     assert_eq!(forged(7, 1), bad, "far more than 64 entries");
-    assert_eq!(forged(0, 20), bad, "an entry of zeros behind the last");
+    assert_eq!(forged(0, 20), bad, "an entry of zeros after the last");
     assert_eq!(forged(8 + 7, 0x7f), bad, "a first threshold above the second");
     assert_eq!(forged(520, 18), bad, "a first offset two below the second");
     assert!(forged(0, 18).is_ok(), "one entry fewer is a table");

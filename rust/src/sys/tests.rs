@@ -82,11 +82,11 @@ fn a_forged_image_is_refused_by_8_in_every_call_and_is_left_alone() {
     assert_eq!(table_last_update(&forged), Err(bad));
     assert_eq!(table_current_tai_minus_utc(&forged), Err(bad));
     assert_eq!(table_tai_minus_utc_at(&forged, 0), Err(bad));
-    for convert in [gps_to_utc, utc_to_gps, glonass_to_gps, gps_to_glonass] {
+    for convert in [table_gps_to_utc, table_utc_to_gps, table_glonass_to_gps, table_gps_to_glonass] {
         assert_eq!(convert(u64::MAX, &forged), Err(bad));
     }
-    assert_eq!(gps_from_unix_seconds(i64::MIN, &forged), Err(bad));
-    assert_eq!(gps_as_unix_seconds(u64::MAX, &forged), Err(bad));
+    assert_eq!(table_gps_from_unix_seconds(i64::MIN, &forged), Err(bad));
+    assert_eq!(table_gps_as_unix_seconds(u64::MAX, &forged), Err(bad));
     assert_eq!(table_try_extend(&mut forged, u64::MAX, 38), Err(bad));
     assert_eq!(forged, before);
 }
