@@ -7,7 +7,7 @@ use lib.Dec.{eqb}
 use lib.ListN.{length}
 use Rattle.refusals.specs.Outcome.{Outcome, answered}
 use Rattle.tables.specs.Answers.{takenIn}
-use Rattle.tables.specs.Entries.{Entry, offset, valid, telling, lookup, offsetAt, currentOffset, lastUpdate, checking}
+use Rattle.tables.specs.Entries.{Entry, offset, valid, lookup, offsetAt, currentOffset, lastUpdate, checking}
 use Rattle.tables.specs.declared.Lookup.{Lookup}
 use Rattle.lent.specs.Lists.{ofValidList}
 use Rattle.lent.specs.Pass.{Seen, checkAt, ofTaken, updateAt}
@@ -43,10 +43,6 @@ module _ (t : ℕ) (ys : List Entry) (p : Pass) (said : Said t ys p) where
   current-read =
       of-valid _ _ (λ v. ap (λ (s : Seen). answered (offset (s .last))) (said .0) ∙ ap answered (last-offset t ys))
 
-  pub in-force-read : ofTaken (p .answer) (answered (offset (p .found))) ≡ ofValidList ys (answered (offsetAt ys t))
+  pub in-force-read : ofTaken (p .answer) (answered (p .found .offset)) ≡ ofValidList ys (answered (offsetAt ys t))
   in-force-read =
-      of-valid _ _ (λ v. ap (λ (s : Seen). answered (offset (s .found))) (said .0) ∙ ap (λ (l : Lookup). answered (l .offset)) (in-force t ys v))
-
-  pub lookup-read : ofTaken (p .answer) (answered (telling (p .found))) ≡ ofValidList ys (answered (lookup ys t))
-  lookup-read =
-      of-valid _ _ (λ v. ap (λ (s : Seen). answered (telling (s .found))) (said .0) ∙ ap answered (in-force t ys v))
+      of-valid _ _ (λ v. ap (λ (l : Lookup). answered (l .offset)) (ap (λ (s : Seen). s .found) (said .0) ∙ in-force t ys v))

@@ -16,6 +16,7 @@ use mir.Syntax.{w32}
 use mir.Val.{SFits}
 use Rattle.tables.specs.Answers.{takenIn}
 use Rattle.tables.specs.Entries.{Entry, threshold, offset, entry, equal, neighbours, follows, valid, lastUpTo, telling, lookup, lastOr, currentOffset, lastUpdate, stepRefusal, firstRefusal, checking}
+use Rattle.tables.specs.declared.Lookup.{Lookup}
 use Rattle.tables.proofs.Neighbours.{both, step-follows}
 use Rattle.lent.specs.declared.inner.Pass.{Pass}
 use Rattle.lent.specs.Pass.{Seen, seenIn, begun, after, passed, judged, checkAt, updateAt}
@@ -32,11 +33,7 @@ positive : (k : ℕ) → eqb (suc k) 0 ≡ false
 positive k = ne-eqb (suc k) 0 (λ e. absurd (omega arith))
 
 pub counts-on : (s : Seen) (e : Entry) → after s e .count ≡ s .count + 1
-counts-on s e = by-count (s .count) refl
-  where
-    by-count : (n : ℕ) → s .count ≡ n → after s e .count ≡ s .count + 1
-    by-count zero h = rw h
-    by-count (suc k) h = rw (h, positive k)
+counts-on s e = refl
 
 module _ (ys : List Entry) (s : Seen) (i : ℕ) where
   pub one-on : i < length ys → passed s (drop i ys) ≡ passed (after s (getD ys i noEntry)) (drop (i + 1) ys)
@@ -50,7 +47,7 @@ module _ (ys : List Entry) (s : Seen) (i : ℕ) where
   at-end l = ap (passed s) (drop-of-length-le ys l)
 
 -- ---- as a whole
-abbrev seen : ℕ → ℕ → Entry → Entry → ℕ → Seen
+abbrev seen : ℕ → ℕ → Entry → Lookup → ℕ → Seen
 seen t n p f r = record { tai = t; count = n; last = p; found = f; refusal = r }
 
 unrefused : (r : ℕ) → cond (eqb r 0) 0 r ≡ r
@@ -64,19 +61,27 @@ unfolding firstRefusal
 judged-first zero p e es = refl
 judged-first (suc r) p e es = rw (positive r, positive r)
 
+told-of-one : (b : Bool) (e f : Entry) → cond b (telling e) (telling f) ≡ telling (cond b e f)
+told-of-one true e f = refl
+told-of-one false e f = refl
+
 from-second-on : (t k : ℕ) (p f : Entry) (r : ℕ) (es : List Entry)
-    → passed (seen t (suc k) p f r) es ≡ seen t (suc k + length es) (lastOr p es) (lastUpTo t f es) (cond (eqb r 0) (firstRefusal (p ∷ es)) r)
+    → passed (seen t (suc k) p (telling f) r) es
+    ≡ seen t (suc k + length es) (lastOr p es) (telling (lastUpTo t f es)) (cond (eqb r 0) (firstRefusal (p ∷ es)) r)
 unfolding passed lastOr lastUpTo firstRefusal
-from-second-on t k p f r [] = let n : suc k ≡ suc k + 0 = omega arith in ap (λ (m : ℕ). seen t m p f r) n ∙ ap (seen t (suc k + 0) p f) (sym (unrefused r))
+from-second-on t k p f r [] =
+    let n : suc k ≡ suc k + 0 = omega arith in
+    ap (λ (m : ℕ). seen t m p (telling f) r) n ∙ ap (seen t (suc k + 0) p (telling f)) (sym (unrefused r))
 from-second-on t k p f r (e ∷ es) =
     let n : suc k + 1 ≡ suc (suc k) = omega arith in
     let m : suc (suc k) + length es ≡ suc k + suc (length es) = omega arith in
-    rw (positive k, n, ← m, ← judged-first r p e es)
+    rw (positive k, n, ← m, ← judged-first r p e es, told-of-one (leb (threshold e) t) e f)
     (from-second-on t (suc k) e (cond (leb (threshold e) t) e f) (judged r p e) es)
 
 module _ (t : ℕ) where
   whole : (e : Entry) (es : List Entry)
-      → passed (begun t) (e ∷ es) ≡ seen t (length (e ∷ es)) (lastOr e es) (lastUpTo t e es) (firstRefusal (e ∷ es))
+      → passed (begun t) (e ∷ es)
+      ≡ seen t (length (e ∷ es)) (lastOr e es) (telling (lastUpTo t e es)) (firstRefusal (e ∷ es))
   unfolding passed
   whole e es = let n : 1 + length es ≡ length (e ∷ es) = omega arith in rw (← n) (from-second-on t 0 e e 0 es)
 
@@ -118,10 +123,10 @@ module _ (t : ℕ) where
       let a : t < threshold e = omega arith in
       rw (lt-leb (threshold e) t a) (none-nearer e f es (h .1) a)
 
-  pub in-force : (es : List Entry) → valid es ≡ true → telling (passed (begun t) es .found) ≡ lookup es t
+  pub in-force : (es : List Entry) → valid es ≡ true → passed (begun t) es .found ≡ lookup es t
   unfolding passed lookup lastUpTo
   in-force [] v = refl
-  in-force (e ∷ es) v = ap (λ (s : Seen). telling (s .found)) (whole e es) ∙ by-order (decLt t (threshold e))
+  in-force (e ∷ es) v = ap (λ (s : Seen). s .found) (whole e es) ∙ by-order (decLt t (threshold e))
     where
       by-order : Dec (t < threshold e) → telling (lastUpTo t e es) ≡ lookup (e ∷ es) t
       by-order (yes l) = rw (lt-ltb t (threshold e) l) (ap telling (none-nearer e e es v l))

@@ -5,7 +5,7 @@ ghost use mathlib.Core.Path.{_≡_};
 ghost use Prim.Native.Nat.{_+_, _<_, _^_};
 ghost use lib.Dec.{eqb};
 ghost use Rattle.refusals.specs.Outcome.{answered};
-ghost use Rattle.tables.specs.Entries.{offset, telling, valid};
+ghost use Rattle.tables.specs.Entries.{offset, valid};
 ghost use Rattle.tables.specs.Answers.{takenIn, lengthIn, emptyIn, updateIn, lookupIn, offsetIn};
 ghost use Rattle.lent.specs.Pass.{seenIn, begun, nearer, judged, after, passed, checkAt, ofTaken, updateAt};
 use refusals::Refusal;
@@ -21,6 +21,7 @@ use tables::UpdateAnswer;
 use tables::inner::OFFSET_OF_NO_ENTRY;
 use tables::inner::offset_in;
 use tables::inner::step;
+use tables::inner::told_of_none;
 
 // What is known of the entries so far, at a TAI reading.
 pub struct Pass {
@@ -28,8 +29,8 @@ pub struct Pass {
     pub tai: u64,
     pub count: usize,
     pub last: LeapEntry,
-    // the last entry at or below the reading, or else the first
-    pub found: LeapEntry,
+    // what a lookup in them tells
+    pub found: Lookup,
     // the first refusal of an entry by the one before it
     pub answer: Taken,
 }
@@ -46,16 +47,22 @@ pub fn begin(tai: u64) -> Pass
         tai,
         count: 0,
         last: none,
-        found: none,
+        found: told_of_none(),
         answer: Taken::Done,
     }
 }
 
-// Folds one entry into the last one at or below a reading.
-fn pick(tai: u64, found: LeapEntry, next: LeapEntry) -> LeapEntry
-    ensures { λ r. ⌜ r ≡ nearer tai found next ⌝ }
+// Folds one entry into what a lookup tells: of the first entry, and then of each that is at or below the reading.
+fn pick(tai: u64, place: usize, found: Lookup, next: LeapEntry) -> Lookup
+    ensures { λ r. ⌜ r ≡ nearer tai place found next ⌝ }
 {
-    if next.tai_nanos <= tai { next } else { found }
+    if (place == 0) | (next.tai_nanos <= tai) {
+        Lookup {
+            offset: next.tai_minus_utc,
+        }
+    } else {
+        found
+    }
 }
 
 // Folds one entry into the first refusal.
@@ -78,16 +85,16 @@ pub fn pass_on(pass: Pass, next: LeapEntry) -> Pass
     let before = pass.last;
     let near = pass.found;
     let so_far = pass.answer;
+    let found = pick(tai, count, near, next);
     if count == 0 {
         return Pass {
             tai,
             count: 1,
             last: next,
-            found: next,
+            found,
             answer: Taken::Done,
         };
     }
-    let found = pick(tai, near, next);
     let answer = judge(so_far, before, next);
     Pass {
         tai,
@@ -167,21 +174,19 @@ pub fn current(pass: Pass) -> OffsetAnswer
 
 // What is in force at the reading.
 pub fn look_up(pass: Pass) -> LookupAnswer
-    ensures { λ r. ⌜ lookupIn r ≡ ofTaken (pass .answer) (answered (telling (pass .found))) ⌝ }
+    ensures { λ r. ⌜ lookupIn r ≡ ofTaken (pass .answer) (answered (pass .found)) ⌝ }
 {
     let answer = pass.answer;
     let found = pass.found;
     match answer {
-        Taken::Done => LookupAnswer::Told(Lookup {
-            offset: found.tai_minus_utc,
-        }),
+        Taken::Done => LookupAnswer::Told(found),
         Taken::Refused(_) => LookupAnswer::Refused(Refusal::BadTable),
     }
 }
 
 // The offset in force at the reading.
 pub fn in_force(pass: Pass) -> OffsetAnswer
-    ensures { λ r. ⌜ offsetIn r ≡ ofTaken (pass .answer) (answered (offset (pass .found))) ⌝ }
+    ensures { λ r. ⌜ offsetIn r ≡ ofTaken (pass .answer) (answered (pass .found .offset)) ⌝ }
 {
     offset_in(look_up(pass))
 }

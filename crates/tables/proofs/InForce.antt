@@ -80,6 +80,6 @@ module _ (xs : List ℕ) (zs : List ℤ) (n : ℕ) (h : n ≤ length xs) (h′ :
       let w = q .within in
       in-force t k d es (omega arith) (reached t k q) ∙ ap telling (slot-is xs zs n (k - 1) d (omega arith) h h′)
 
-pub none-in-force : (t : ℕ) → lookup [] t ≡ record { offset = pos 19 }
+pub none-in-force : (t : ℕ) → lookup [] 0 ≡ lookup [] t
 unfolding lookup
 none-in-force t = refl

@@ -1,5 +1,5 @@
 -- A lookup in a valid list answers by the last entry at or below the reading.
-use mathlib.Core.Path.{_≡_, ap, _∙_}
+use mathlib.Core.Path.{_≡_, refl, ap, _∙_}
 use mathlib.Core.Bool.{true}
 use mathlib.Core.List.{List, []}
 use mathlib.Core.Option.{some}
@@ -11,7 +11,7 @@ use lib.IntN.{pos}
 use Rattle.tables.specs.Entries.{Entry, threshold, entry, valid, telling, lookup}
 use Rattle.tables.proofs.FirstSlots.{some-at}
 use Rattle.tables.proofs.Neighbours.{rises-by}
-use Rattle.tables.proofs.InForce.{Reached, in-force, none-in-force}
+use Rattle.tables.proofs.InForce.{Reached, in-force}
 use Rattle.tables.proofs.Tested.{in-range, at-place}
 
 -- what is in force at t, by the entry that tells it
@@ -58,8 +58,9 @@ module _ (es : List Entry) (t : ℕ) (v : valid es ≡ true) where
       go i (no n) b = let z : i ≡ k = omega (arith, n) in rw z here
 
   pub looks-up : LooksUp es t
+  unfolding lookup
   looks-up = record {
-    none = λ z. rw z (none-in-force t);
+    none = λ z. rw z refl;
     before = λ e h l. in-force t 0 d es (in-range es 0 e d h) (below-all e h l) ∙ ap telling (at-place es 0 e d h);
     last = λ k e h l later.
         let r = in-range es k e d h in

@@ -1,6 +1,7 @@
 // What the calls share: work on lent thresholds and offsets, of which the first n count.
 ghost use mathlib.Core.Path.{_≡_};
 ghost use mathlib.Core.Bool.{true};
+ghost use mathlib.Core.List.{[]};
 ghost use Prim.Native.Nat.{ℕ, _+_, _-_, _≤_, _<_, min};
 ghost use lib.Dec.{eqb};
 ghost use lib.ListN.{length};
@@ -115,6 +116,15 @@ pub fn place_in_force(reached: usize) -> usize
     if reached == 0 { 0 } else { reached - 1 }
 }
 
+// What a lookup tells where there is no entry.
+pub fn told_of_none() -> Lookup
+    ensures { λ r. ⌜ r ≡ lookup [] 0 ⌝ }
+{
+    Lookup {
+        offset: OFFSET_OF_NO_ENTRY,
+    }
+}
+
 // What a lookup in the first n slots tells.
 pub fn look_up<'a>(thresholds: &'a [u64], offsets: &'a [i32], n: usize, tai: u64) -> Lookup
     requires { ⌜ n ≤ length (now thresholds) ⌝ }
@@ -123,9 +133,7 @@ pub fn look_up<'a>(thresholds: &'a [u64], offsets: &'a [i32], n: usize, tai: u64
     ensures { λ r. ⌜ r ≡ lookup (slots (now (thresholds .entry)) (now (offsets .entry)) n) tai ⌝ }
 {
     if n == 0 {
-        return Lookup {
-            offset: OFFSET_OF_NO_ENTRY,
-        };
+        return told_of_none();
     }
     let place = place_in_force(count_at_or_below(thresholds, n, tai));
     Lookup {

@@ -19,8 +19,8 @@ use refusals::Refusal;
 use tables::Lookup;
 use tables::LookupAnswer;
 use tables::RUNTIME_CAPACITY;
-use tables::inner::OFFSET_OF_NO_ENTRY;
 use tables::inner::place_in_force;
+use tables::inner::told_of_none;
 
 // What a lookup in n slots tells, where the entry in force is at `place`.
 fn told(image: &[u8], n: usize, place: usize) -> Lookup
@@ -30,12 +30,12 @@ fn told(image: &[u8], n: usize, place: usize) -> Lookup
         cond (eqb n 0) (lookup [] 0)
         (telling (slotAt (tableIn (now (image .entry)) .thresholds) (tableIn (now (image .entry)) .offsets) place)) ⌝ }
 {
-    let offset = if n == 0 {
-        OFFSET_OF_NO_ENTRY
-    } else {
-        offset(image, place)
-    };
-    Lookup { offset }
+    if n == 0 {
+        return told_of_none();
+    }
+    Lookup {
+        offset: offset(image, place),
+    }
 }
 
 // What is in force at a TAI reading, or 8: one pass tests the table and finds the place.

@@ -66,7 +66,7 @@ use Rattle.lent.proofs.tai_minus_utc_at.Statement as stated
 use Rattle.lent.proofs.tai_minus_utc_at.Code as code
 
 abbrev θ : Pass → OffsetAnswer → Type 0
-θ p r = offsetIn r ≡ ofTaken (p .answer) (answered (offset (p .found)))
+θ p r = offsetIn r ≡ ofTaken (p .answer) (answered (p .found .offset))
 
 abbrev zv : Tai → Val
 zv z = LL.val Z.the-type Z′.the-laws z

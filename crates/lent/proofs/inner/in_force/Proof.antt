@@ -4,7 +4,6 @@ use lib.IntN.{ℤ}
 use lib.Dec.{eqb}
 use Rattle.refusals.specs.Outcome.{answered, changed}
 use Rattle.tables.specs.Answers.{takenIn}
-use Rattle.tables.specs.Entries.{telling}
 use Rattle.tables.specs.declared.Lookup.{Lookup}
 use Rattle.tables.proofs.Checked.{eight-changed}
 use borrow.Author.Needs.{needs}
@@ -15,7 +14,7 @@ returns c =
     let pass = c .before .before .args .pass in
     let offset-of : Lookup → ℤ = λ l. l .offset in
     c .offset-in .ensures ∙ ap (changed offset-of) (c .before .look-up .ensures)
-    ∙ eight-changed offset-of (eqb (takenIn (pass .answer)) 0) (answered (telling (pass .found)))
+    ∙ eight-changed offset-of (eqb (takenIn (pass .answer)) 0) (answered (pass .found))
 
 pub in-force-spec : {M : Type 1} → call.Statement.statement M
 in-force-spec = call.Tie.close (call.Tie.spec (λ c κs. search needs) (λ c κs. search needs) returns)

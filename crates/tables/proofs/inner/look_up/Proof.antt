@@ -15,7 +15,7 @@ use borrow.Author.Needs.{needs}
 use Rattle.tables.proofs.inner.look_up as call
 
 returns : call.Tie.Need-returns
-returns c = rw (c .if1 .taken) (sym (none-in-force (c .before .before .args .tai)))
+returns c = rw (c .before .if1 .taken) (c .told-of-none .ensures ∙ none-in-force (c .before .before .before .args .tai))
 
 count-at-or-below-requires : call.Tie.Need-count-at-or-below-requires
 count-at-or-below-requires c κs =
@@ -37,6 +37,7 @@ pub look-up-spec : {M : Type 1} → call.Statement.statement M
 look-up-spec =
     call.Tie.close
     (call.Tie.spec
+    (λ c κs. search needs)
     returns
     count-at-or-below-requires
     (λ c κs. search needs)

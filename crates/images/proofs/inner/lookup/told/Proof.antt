@@ -1,17 +1,16 @@
 -- `inner::lookup::told` tells what the slot at the place has, or what holds with no entry.
-use mathlib.Core.Path.{sym, ap, _∙_}
+use mathlib.Core.Path.{ap, _∙_}
 use borrow.Author.Tests.{ne-eqb}
 use lib.IntN.{ℤ}
 use mir.Syntax.{w32}
 use mir.Val.{SFits}
 use mir.Facts.{toZ-ofZ}
 use Rattle.tables.specs.Entries.{entry, telling}
-use Rattle.tables.proofs.InForce.{none-in-force}
 use borrow.Author.Needs.{needs}
 use Rattle.images.proofs.inner.lookup.told as call
 
 returns : call.Tie.Need-returns
-returns c = rw (c .if1 .taken) (sym (none-in-force 0))
+returns c = rw (c .before .if1 .taken) (c .told-of-none .ensures)
 
 returns-2 : call.Tie.Need-returns-2
 returns-2 c =
@@ -19,4 +18,4 @@ returns-2 c =
     rw (ne-eqb _ 0 (c .before .if1 .left)) (ap (λ (z : ℤ). telling (entry 0 z)) (toZ-ofZ fits ∙ c .offset .ensures))
 
 pub told-spec : {M : Type 1} → call.Statement.statement M
-told-spec = call.Tie.close (call.Tie.spec (λ c κs. search needs) returns returns-2)
+told-spec = call.Tie.close (call.Tie.spec (λ c κs. search needs) returns (λ c κs. search needs) returns-2)

@@ -1,0 +1,13 @@
+-- `inner::begin` knows of no entry.
+use mathlib.Core.Path.{ap}
+use borrow.Author.Needs.{needs}
+use Rattle.tables.specs.Entries.{entry}
+use Rattle.tables.specs.declared.Lookup.{Lookup}
+use Rattle.lent.specs.Pass.{Seen}
+use Rattle.lent.proofs.inner.begin as call
+
+returns : call.Tie.Need-returns
+returns c = rw (c .told-of-none .ensures)
+
+pub begin-spec : {M : Type 1} → call.Statement.statement M
+begin-spec = call.Tie.close (call.Tie.spec (λ c κs. search needs) returns)
