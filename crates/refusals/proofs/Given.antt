@@ -15,6 +15,11 @@ module _ {A : Type 0} (zeros : A) {n : ℕ} {v : A} where
   pub gives-same : {o q : Outcome A} → o ≡ q → Gives zeros o n v → Gives zeros q n v
   gives-same e g = (g .0 ∙ ap refusalIn e, g .1 ∙ ap (valueIn zeros) e)
 
+  -- a step from an outcome, and then one that gives
+  pub gives-step : {B : Type 0} (f : Outcome B → Outcome A) {o : Outcome A} {p q : Outcome B}
+      → o ≡ f p → p ≡ q → Gives zeros o n v → Gives zeros (f q) n v
+  gives-step f last first = gives-same (last ∙ ap f first)
+
   -- the number and the value tell the outcome
   pub told-is : (o : Outcome A) → Numbered o → Gives zeros o n v → unless n v ≡ o
   told-is (answered a) numbered (number, value) = rw (number, value)
