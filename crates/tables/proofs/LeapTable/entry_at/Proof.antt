@@ -41,4 +41,4 @@ returns-3 c =
     ∙ good t _ (k .passes)
 
 pub entry-at-spec : {M : Type 1} → call.Statement.statement M
-entry-at-spec = call.Tie.close (call.Tie.spec (λ c κs. search needs) returns slot-requires returns-2 returns-3)
+entry-at-spec = call.Tie.close (call.Tie.spec (search needs) returns slot-requires returns-2 returns-3)

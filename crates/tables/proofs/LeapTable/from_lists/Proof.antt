@@ -63,16 +63,5 @@ returns-4 c =
 pub from-lists-spec : {M : Type 1} → call.Statement.statement M
 from-lists-spec =
     call.Tie.close
-    (call.Tie.spec
-    (λ c κs. search needs)
-    (λ c κs. search needs)
-    returns
-    (λ c κs. search needs)
-    returns-2
-    (λ c κs. search needs)
-    (λ c. search needs)
-    (λ c κs. search needs)
-    (λ c. search needs)
-    (λ c κs. search needs)
-    returns-3
-    returns-4)
+    (call.Tie.spec (search needs) (search needs) returns (search needs) returns-2 (search needs) (search needs)
+    (search needs) (search needs) (search needs) returns-3 returns-4)

@@ -23,4 +23,4 @@ returns-2 c =
     bad (c .before .before .before .before .before .args .t1) _ (sym (c .before .is-valid .ensures) ∙ c .if1 .left)
 
 pub is-empty-spec : {M : Type 1} → call.Statement.statement M
-is-empty-spec = call.Tie.close (call.Tie.spec (λ c κs. search needs) returns returns-2)
+is-empty-spec = call.Tie.close (call.Tie.spec (search needs) returns returns-2)

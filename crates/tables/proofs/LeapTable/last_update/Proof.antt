@@ -39,4 +39,4 @@ returns-3 c =
 pub last-update-spec : {M : Type 1} → call.Statement.statement M
 last-update-spec =
     call.Tie.close
-    (call.Tie.spec (λ c κs. search needs) returns (λ c. search needs) mul-t11 element-copy-out-t14 returns-2 returns-3)
+    (call.Tie.spec (search needs) returns (search needs) mul-t11 element-copy-out-t14 returns-2 returns-3)

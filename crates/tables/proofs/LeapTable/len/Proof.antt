@@ -21,4 +21,4 @@ returns-2 c =
     bad (c .before .before .before .before .before .args .t1) _ (sym (c .before .is-valid .ensures) ∙ c .if1 .left)
 
 pub len-spec : {M : Type 1} → call.Statement.statement M
-len-spec = call.Tie.close (call.Tie.spec (λ c κs. search needs) returns returns-2)
+len-spec = call.Tie.close (call.Tie.spec (search needs) returns returns-2)

@@ -17,4 +17,4 @@ returns c =
     ∙ eight-changed offset-of (validTable (a .t1)) (answered (lookup (entriesOf (a .t1)) (a .tai .0)))
 
 pub tai-minus-utc-at-spec : {M : Type 1} → call.Statement.statement M
-tai-minus-utc-at-spec = call.Tie.close (call.Tie.spec (λ c κs. search needs) (λ c κs. search needs) returns)
+tai-minus-utc-at-spec = call.Tie.close (call.Tie.spec (search needs) (search needs) returns)

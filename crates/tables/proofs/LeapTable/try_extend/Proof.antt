@@ -54,14 +54,5 @@ returns-3 c =
 pub try-extend-spec : {M : Type 1} → call.Statement.statement M
 try-extend-spec =
     call.Tie.close
-    (call.Tie.spec
-    (λ c κs. search needs)
-    (λ c κs. search needs)
-    returns
-    joins-requires
-    (λ c. search needs)
-    (λ c κs. search needs)
-    (λ c. search needs)
-    joined-requires
-    returns-2
-    returns-3)
+    (call.Tie.spec (search needs) (search needs) returns joins-requires (search needs) (search needs) (search needs)
+    joined-requires returns-2 returns-3)

@@ -31,4 +31,4 @@ returns-2 c =
     bad-slots (now (a .thresholds)) (now (a .offsets)) (a .n) _ (sym (c .before .is-valid .ensures) ∙ c .if1 .left)
 
 pub checked-look-up-spec : {M : Type 1} → call.Statement.statement M
-checked-look-up-spec = call.Tie.close (call.Tie.spec (λ c κs. search needs) look-up-requires returns returns-2)
+checked-look-up-spec = call.Tie.close (call.Tie.spec (search needs) look-up-requires returns returns-2)

@@ -37,17 +37,5 @@ returns c =
 pub count-at-or-below-spec : {M : Type 1} → call.Statement.statement M
 count-at-or-below-spec =
     call.Tie.close
-    (call.Tie.spec
-    Inv-loop
-    μ-loop
-    loop-holds
-    (λ c. search needs)
-    (λ c. search needs)
-    (λ c. search needs)
-    (λ c. search needs)
-    (λ c. search needs)
-    (λ c. search needs)
-    loop-again
-    (λ c. search needs)
-    loop-again-2
-    returns)
+    (call.Tie.spec Inv-loop μ-loop loop-holds (search needs) (search needs) (search needs) (search needs) (search needs)
+    (search needs) loop-again (search needs) loop-again-2 returns)

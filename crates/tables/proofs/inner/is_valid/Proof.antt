@@ -22,5 +22,4 @@ returns-3 c =
     (sym (ap (λ (r : Taken). eqb (takenIn r) 0) (c .enum-told2 .given .1) ∙ ne-eqb _ 0 (number-not-zero (c .enum-told2 .given .0 .0))) ∙ c .before .before .first-refusal .ensures .1)
 
 pub is-valid-spec : {M : Type 1} → call.Statement.statement M
-is-valid-spec =
-    call.Tie.close (call.Tie.spec returns (λ c κs. search needs) (λ c. search needs) (λ c. search needs) returns-2 returns-3)
+is-valid-spec = call.Tie.close (call.Tie.spec returns (search needs) (search needs) (search needs) returns-2 returns-3)

@@ -24,4 +24,4 @@ returns-3 c =
     (omega (arith, c .before .before .before .if1 .left)) (c .before .before .if2 .left)))
 
 pub joins-spec : {M : Type 1} → call.Statement.statement M
-joins-spec = call.Tie.close (call.Tie.spec returns returns-2 (λ c. search needs) (λ c κs. search needs) (λ c κs. search needs) returns-3)
+joins-spec = call.Tie.close (call.Tie.spec returns returns-2 (search needs) (search needs) (search needs) returns-3)

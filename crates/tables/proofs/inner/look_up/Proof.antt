@@ -36,11 +36,4 @@ returns-2 c =
 pub look-up-spec : {M : Type 1} → call.Statement.statement M
 look-up-spec =
     call.Tie.close
-    (call.Tie.spec
-    (λ c κs. search needs)
-    returns
-    count-at-or-below-requires
-    (λ c κs. search needs)
-    (λ c. search needs)
-    (λ c. search needs)
-    returns-2)
+    (call.Tie.spec (search needs) returns count-at-or-below-requires (search needs) (search needs) (search needs) returns-2)

@@ -24,4 +24,4 @@ returns-2 : call.Tie.Need-returns-2
 returns-2 c = sym (ap told (c .before .found2 .given .1))
 
 pub offset-in-spec : {M : Type 1} → call.Statement.statement M
-offset-in-spec = call.Tie.close (call.Tie.spec (λ c. search needs) (λ c. search needs) returns returns-2)
+offset-in-spec = call.Tie.close (call.Tie.spec (search needs) (search needs) returns returns-2)

@@ -11,4 +11,4 @@ returns c =
     ∙ ap (λ (t : LeapTable). (numberOf (c .before .before .args .why), t)) (c .before .new .ensures)
 
 pub unbuilt-spec : {M : Type 1} → call.Statement.statement M
-unbuilt-spec = call.Tie.close (call.Tie.spec (λ c κs. search needs) (λ c κs. search needs) returns)
+unbuilt-spec = call.Tie.close (call.Tie.spec (search needs) (search needs) returns)
