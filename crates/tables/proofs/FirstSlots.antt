@@ -1,7 +1,7 @@
 -- The first n slots of thresholds and offsets: how many they are, which entry stands in each, and what one more brings.
 use mathlib.Core.Path.{_≡_, refl, sym, ap, _∙_}
 use mathlib.Core.List.{List, [], _∷_, _++_}
-use Prim.Native.Nat.{ℕ, zero, suc, _+_, _-_, _≤_, _<_, min}
+use Prim.Native.Nat.{ℕ, zero, suc, _≤_, _<_, min}
 use native.Mathlib.Omega.{arith}
 use mathlib.Core.Option.{some, none}
 use lib.ListN.{length, getD, getElem?, set, take}

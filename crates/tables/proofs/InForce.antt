@@ -2,7 +2,7 @@
 use mathlib.Core.Path.{_≡_, refl, ap, _∙_}
 use mathlib.Core.Bool.{true}
 use mathlib.Core.List.{List, [], _∷_}
-use Prim.Native.Nat.{ℕ, zero, suc, _+_, _-_, _≤_, _<_}
+use Prim.Native.Nat.{ℕ, zero, suc, _-_, _≤_, _<_}
 use native.Mathlib.Omega.{arith}
 use borrow.Author.Tests.{le-leb, lt-leb, lt-ltb, le-ltb}
 use lib.ListN.{length, getD}
@@ -11,7 +11,7 @@ use Rattle.tables.specs.Entries.{Entry, threshold, entry, valid, lastUpT
 use Rattle.tables.specs.Slots.{slotAt, slots}
 use Rattle.tables.specs.Search.{Rises, AtOrBelow}
 use Rattle.tables.proofs.FirstSlots.{slots-length, slot-is}
-use Rattle.tables.proofs.Neighbours.{rises-by}
+use Rattle.tables.proofs.Neighbours.{thresholds-rise}
 
 -- the first k entries are at or below t, and the rest above it
 pub record Reached (es : List Entry) (d : Entry) (t k : ℕ) : Type 0 where
@@ -58,10 +58,8 @@ module _ (xs : List ℕ) (zs : List ℤ) (n : ℕ) (h : n ≤ length xs) (h′ :
   pub rises : valid es ≡ true → Rises xs n
   rises v = record {
     rises = λ i j l l′.
-        let e : suc i + (j - suc i) ≡ j = omega arith in
         let n-is = slots-length xs zs n h h′ in
-        let r = rises-by es d v (j - suc i) i (omega arith) in
-        rw (← at i (omega arith), ← at j l′) (rw e at r);
+        rw (at i (omega arith), at j l′) at (thresholds-rise es d v i j l (omega arith));
   }
 
   reached : (t k : ℕ) → AtOrBelow xs n t k → Reached es d t k

@@ -3,14 +3,14 @@ use mathlib.Core.Path.{_≡_, refl, ap, _∙_}
 use mathlib.Core.Bool.{true}
 use mathlib.Core.List.{List, []}
 use mathlib.Core.Option.{some}
-use Prim.Native.Nat.{ℕ, suc, _+_, _-_, _≤_, _<_}
+use Prim.Native.Nat.{ℕ, suc, _-_, _≤_, _<_}
 use native.Mathlib.Omega.{arith}
 use native.Mathlib.Decide.{decLt}
 use lib.ListN.{length, getD, getElem?}
 use lib.IntN.{pos}
 use Rattle.tables.specs.Entries.{Entry, threshold, entry, valid, telling, lookup}
 use Rattle.tables.proofs.FirstSlots.{some-at}
-use Rattle.tables.proofs.Neighbours.{rises-by}
+use Rattle.tables.proofs.Neighbours.{thresholds-rise}
 use Rattle.tables.proofs.InForce.{Reached, in-force}
 use Rattle.tables.proofs.Tested.{in-range, at-place}
 
@@ -26,11 +26,6 @@ module _ (es : List Entry) (t : ℕ) (v : valid es ≡ true) where
   abbrev d : Entry
   d = entry 0 (pos 0)
 
-  rises : (i j : ℕ) → i < j → j < length es → threshold (getD es i d) < threshold (getD es j d)
-  rises i j l l′ =
-      let e : suc i + (j - suc i) ≡ j = omega arith in
-      rw e at (rises-by es d v (j - suc i) i (omega arith))
-
   -- a reading below the first threshold is below all
   below-all : (e : Entry) → getElem? es 0 ≡ some e → t < threshold e → Reached es d t 0
   below-all e h l = record { within = omega arith; below = λ i b. absurd (omega arith); above = λ i a b. go i b (decLt 0 i) }
@@ -39,7 +34,7 @@ module _ (es : List Entry) (t : ℕ) (v : valid es ≡ true) where
       first = rw (at-place es 0 e d h) l
 
       go : (i : ℕ) → i < length es → Dec (0 < i) → t < threshold (getD es i d)
-      go i b (yes p) = omega (arith, rises 0 i p b, first)
+      go i b (yes p) = omega (arith, thresholds-rise es d v 0 i p b, first)
       go i b (no n) = let z : i ≡ 0 = omega (arith, n) in rw z first
 
   up-to : (k : ℕ) (e : Entry) → getElem? es k ≡ some e → threshold e ≤ t
@@ -54,7 +49,7 @@ module _ (es : List Entry) (t : ℕ) (v : valid es ≡ true) where
       here = rw (at-place es k e d h) l
 
       go : (i : ℕ) → Dec (i < k) → i < suc k → threshold (getD es i d) ≤ t
-      go i (yes p) b = omega (arith, rises i k p (in-range es k e d h), here)
+      go i (yes p) b = omega (arith, thresholds-rise es d v i k p (in-range es k e d h), here)
       go i (no n) b = let z : i ≡ k = omega (arith, n) in rw z here
 
   pub looks-up : LooksUp es t

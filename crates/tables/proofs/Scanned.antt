@@ -1,62 +1,84 @@
--- The first refusal among the first n slots, as a loop finds it: one slot more at each turn.
+-- A scan of the first n slots by neighbours: what is left of them has the first refusal of all.
 use mathlib.Core.Path.{_≡_, refl, sym, ap, _∙_}
-use mathlib.Core.Bool.{false}
-use mathlib.Core.List.{List, [], _∷_, _++_, append-assoc}
+use mathlib.Core.Bool.{true, false, cond, false≢true}
+use mathlib.Core.List.{List, [], _∷_}
 use Prim.Native.Nat.{ℕ, zero, suc, _+_, _-_, _≤_, _<_}
 use native.Mathlib.Omega.{arith}
-use native.Mathlib.Decide.{ℕ-discrete}
-use lib.ListN.{length, take, drop}
-use lib.Seq.{take-add}
-use lib.IntN.{ℤ}
-use Rattle.tables.specs.Entries.{Entry, follows, valid, stepRefusal, firstRefusal}
-use Rattle.tables.specs.Slots.{paired, slotAt, slots}
-use Rattle.tables.proofs.FirstSlots.{one-more}
-use Rattle.tables.proofs.Neighbours.{joined-refusal, refusal-stays, not-valid}
+use borrow.Author.Tests.{ne-eqb}
+use lib.Dec.{eqb}
+use lib.ListN.{length, getD, drop, length-drop}
+use lib.IntN.{ℤ, pos}
+use mir.Syntax.{w32}
+use mir.Val.{SFits}
+use Rattle.tables.specs.Entries.{Entry, entry, follows, valid, stepRefusal, firstRefusal}
+use Rattle.tables.specs.Slots.{slotAt, slots}
+use Rattle.tables.proofs.FirstSlots.{slots-length, slot-is}
+use Rattle.tables.proofs.Neighbours.{same-test, step-follows, passes-valid, at-each}
 
-pub one-passes : (es : List Entry) → firstRefusal (take 1 es) ≡ 0
+-- the number that judges the next entry is the first refusal, or else what follows has it
+next-two : (es : List Entry) (k : ℕ) (d : Entry) {j : ℕ} → suc k < length es
+    → j ≡ stepRefusal (getD es k d) (getD es (suc k) d)
+    → firstRefusal (drop k es) ≡ cond (eqb j 0) (firstRefusal (drop (suc k) es)) j
 unfolding firstRefusal
-one-passes [] = refl
-one-passes (e ∷ es) = refl
+next-two [] k d l q = absurd (omega arith)
+next-two (p ∷ []) k d l q = absurd (omega arith)
+next-two (p ∷ e ∷ es) zero d l q = ap (λ (n : ℕ). cond (eqb n 0) (firstRefusal (e ∷ es)) n) (sym q)
+next-two (p ∷ e ∷ es) (suc k) d l q = next-two (e ∷ es) k d (omega arith) q
 
-module _ (es : List Entry) (m n : ℕ) (h : m ≤ n) where
-  split : take n es ≡ take m es ++ take (n - m) (drop m es)
-  split = let e : n ≡ m + (n - m) = omega arith in ap (λ (k : ℕ). take k es) e ∙ take-add m (n - m) es
-
-  -- a refusal among the first m is that of the first n
-  pub refused-early : (firstRefusal (take m es) ≡ 0 → ⊥) → firstRefusal (take n es) ≡ firstRefusal (take m es)
-  refused-early k = ap firstRefusal split ∙ refusal-stays (take m es) (take (n - m) (drop m es)) k
-
-  pub passes-early : firstRefusal (take n es) ≡ 0 → firstRefusal (take m es) ≡ 0
-  passes-early z = go (ℕ-discrete (firstRefusal (take m es)) 0)
-    where
-      go : Dec (firstRefusal (take m es) ≡ 0) → firstRefusal (take m es) ≡ 0
-      go (yes e) = e
-      go (no k) = sym (refused-early k) ∙ z
+one-passes : (es : List Entry) → length es ≤ 1 → firstRefusal es ≡ 0
+unfolding firstRefusal
+one-passes [] l = refl
+one-passes (e ∷ []) l = refl
+one-passes (e ∷ f ∷ es) l = absurd (omega arith)
 
 module _ (xs : List ℕ) (zs : List ℤ) where
-  last-two : (j : ℕ) → suc j < length xs → suc j < length zs
-      → slots xs zs (suc (suc j)) ≡ slots xs zs j ++ slotAt xs zs j ∷ slotAt xs zs (suc j) ∷ []
-  last-two j h k =
-      one-more xs zs (suc j) h k
-      ∙ ap (λ (es : List Entry). es ++ slotAt xs zs (suc j) ∷ []) (one-more xs zs j (omega arith) (omega arith))
-      ∙ append-assoc (slots xs zs j) (slotAt xs zs j ∷ []) (slotAt xs zs (suc j) ∷ [])
+  module _ (i n : ℕ) (p : 1 ≤ i) (l : i < n) (h : n ≤ length xs) (h′ : n ≤ length zs) where
+    abbrev es : List Entry
+    es = slots xs zs n
 
-  -- after slots that pass, the slot at i is judged by the one before it
-  pub next-refusal : (i : ℕ) → 1 ≤ i → i < length xs → i < length zs → firstRefusal (slots xs zs i) ≡ 0
-      → firstRefusal (slots xs zs (suc i)) ≡ stepRefusal (slotAt xs zs (i - 1)) (slotAt xs zs i)
-  next-refusal zero p h k z = absurd (omega arith)
-  next-refusal (suc j) p h k z =
-      let s : suc j - 1 ≡ j = omega arith in
-      rw (last-two j h k, s)
-      (joined-refusal (slots xs zs j) (slotAt xs zs j) (slotAt xs zs (suc j)) (rw (one-more xs zs j (omega arith) (omega arith)) at z))
+    abbrev d : Entry
+    d = entry 0 (pos 0)
 
-  -- a slot that does not follow the one before it makes all invalid
-  pub invalid-at : (i n : ℕ) → 1 ≤ i → i < n → n ≤ length xs → n ≤ length zs
-      → follows (slotAt xs zs (i - 1)) (slotAt xs zs i) ≡ false
-      → valid (slots xs zs n) ≡ false
-  invalid-at zero n p l h k f = absurd (omega arith)
-  invalid-at (suc j) n p l h k f =
-      let s : suc j - 1 ≡ j = omega arith in
-      let rest = take (n - suc (suc j)) (drop (suc (suc j)) (paired xs zs)) in
-      rw (split (paired xs zs) (suc (suc j)) n (omega arith), last-two j (omega arith) (omega arith), append-assoc)
-      (not-valid (slots xs zs j) (slotAt xs zs j) (slotAt xs zs (suc j)) rest (rw s at f))
+    -- the slot at i and the one before it
+    at : (P : ℕ → Entry → Entry → Type 0) → P (suc (i - 1)) (getD es (i - 1) d) (getD es (suc (i - 1)) d)
+        → P i (slotAt xs zs (i - 1)) (slotAt xs zs i)
+    at P t =
+        let e : suc (i - 1) ≡ i = omega arith in
+        rw (e, slot-is xs zs n (i - 1) d (omega arith) h h′, slot-is xs zs n i d l h h′) at t
+
+    in-range : suc (i - 1) < length es
+    in-range = omega (arith, slots-length xs zs n h h′)
+
+    -- a slot that does not follow the one before it makes all invalid
+    pub invalid-at : follows (slotAt xs zs (i - 1)) (slotAt xs zs i) ≡ false → valid es ≡ false
+    invalid-at f =
+        same-test (valid es) false
+        (λ v. sym f ∙ at (λ k p e. follows p e ≡ true) (at-each follows es d v (i - 1) in-range))
+        (λ c. absurd (false≢true c))
+
+    module _ (k : ℕ) (judged : k ≡ stepRefusal (slotAt xs zs (i - 1)) (slotAt xs zs i))
+        (left : firstRefusal (drop (i - 1) es) ≡ firstRefusal es) where
+      next : firstRefusal es ≡ cond (eqb k 0) (firstRefusal (drop i es)) k
+      next =
+          sym left
+          ∙ at
+          (λ j p e. k ≡ stepRefusal p e → firstRefusal (drop (i - 1) es) ≡ cond (eqb k 0) (firstRefusal (drop j es)) k)
+          (next-two es (i - 1) d in-range) judged
+
+      pub goes-on : k ≡ 0 → firstRefusal (drop (i + 1 - 1) es) ≡ firstRefusal es
+      goes-on z = let e : i + 1 - 1 ≡ i = omega arith in rw e (sym (rw z at next))
+
+      pub stops : SFits w32 (getD zs i (pos 0)) → (k ≡ 0 → ⊥) → (k ≡ firstRefusal es) × (eqb k 0 ≡ valid es)
+      stops fits n =
+          let no = ne-eqb k 0 n in
+          let follows-is = ap (λ (j : ℕ). eqb j 0) judged ∙ step-follows (slotAt xs zs (i - 1)) (slotAt xs zs i) fits in
+          (sym (rw no at next), no ∙ sym (invalid-at (sym follows-is ∙ no)))
+
+  pub passed : (i n : ℕ) → n ≤ i → n ≤ length xs → n ≤ length zs
+      → firstRefusal (drop (i - 1) (slots xs zs n)) ≡ firstRefusal (slots xs zs n)
+      → (0 ≡ firstRefusal (slots xs zs n)) × (true ≡ valid (slots xs zs n))
+  passed i n l h h′ left =
+      let few = length-drop (i - 1) (slots xs zs n) in
+      let n-is = slots-length xs zs n h h′ in
+      let z = sym left ∙ one-passes (drop (i - 1) (slots xs zs n)) (omega arith) in
+      (sym z, sym (passes-valid (slots xs zs n) z))
