@@ -1,11 +1,8 @@
 -- What an answer says in plain values tells which answer it is.
-use mathlib.Core.Path.{_≡_, sym, ap, _∙_}
-use Prim.Native.Nat.{ℕ}
-use Rattle.refusals.specs.Number.{numberOf}
+use mathlib.Core.Path.{_≡_, sym, ap}
 use Rattle.refusals.proofs.Tells.{number-tells, number-not-zero}
 use Rattle.scales.proofs.Tells.{tai-count-tells}
 use Rattle.tables.specs.Answers.{takenIn, tableAnswerIn, lengthIn, emptyIn, entryIn, updateIn, offsetIn}
-use Rattle.tables.specs.declared.LeapTable.{LeapTable}
 use Rattle.tables.specs.declared.TableAnswer.{TableAnswer}
 use Rattle.tables.specs.declared.Taken.{Taken}
 use Rattle.tables.specs.declared.Taken.the-variants as taken
@@ -29,29 +26,19 @@ taken-tells (taken.Refused r) (taken.Refused s) e = ap taken.Refused (number-tel
 -- the answer and the table
 pub extension-tells : (x y : TableAnswer) → tableAnswerIn x ≡ tableAnswerIn y → x ≡ y
 extension-tells x y e =
-    let answers = taken-tells (x .answer) (y .answer) (ap (λ (v : ℕ × LeapTable). v .0) e) in
-    let tables = ap (λ (v : ℕ × LeapTable). v .1) e in
-    ap (λ (a : Taken). record {
-      answer =
-          a;
-      table = x .table;
-    }) answers ∙ ap (λ (t : LeapTable). record { answer = y .answer; table = t }) tables
+    λ i. record { answer = taken-tells (x .answer) (y .answer) (λ j. e j .0) i; table = e i .1 }
 
 pub length-tells : (x y : LengthAnswer) → lengthIn x ≡ lengthIn y → x ≡ y
 length-tells (length.Length n) (length.Length m) e = cc
 length-tells (length.Length n) (length.Refused r) e = cc
 length-tells (length.Refused r) (length.Length m) e = cc
-length-tells (length.Refused r) (length.Refused s) e =
-    let same : numberOf r ≡ numberOf s = cc in
-    ap length.Refused (number-tells r s same)
+length-tells (length.Refused r) (length.Refused s) e = ap length.Refused (number-tells r s (cc))
 
 pub empty-tells : (x y : EmptyAnswer) → emptyIn x ≡ emptyIn y → x ≡ y
 empty-tells (empty.Empty a) (empty.Empty b) e = cc
 empty-tells (empty.Empty a) (empty.Refused r) e = cc
 empty-tells (empty.Refused r) (empty.Empty b) e = cc
-empty-tells (empty.Refused r) (empty.Refused s) e =
-    let same : numberOf r ≡ numberOf s = cc in
-    ap empty.Refused (number-tells r s same)
+empty-tells (empty.Refused r) (empty.Refused s) e = ap empty.Refused (number-tells r s (cc))
 
 pub entry-tells : (x y : EntryAnswer) → entryIn x ≡ entryIn y → x ≡ y
 entry-tells (entry.Entry a) (entry.Entry b) e = cc
@@ -62,14 +49,10 @@ entry-tells entry.Nothing entry.Nothing e = cc
 entry-tells entry.Nothing (entry.Refused r) e = cc
 entry-tells (entry.Refused r) (entry.Entry b) e = cc
 entry-tells (entry.Refused r) entry.Nothing e = cc
-entry-tells (entry.Refused r) (entry.Refused s) e =
-    let same : numberOf r ≡ numberOf s = cc in
-    ap entry.Refused (number-tells r s same)
+entry-tells (entry.Refused r) (entry.Refused s) e = ap entry.Refused (number-tells r s (cc))
 
 pub update-tells : (x y : UpdateAnswer) → updateIn x ≡ updateIn y → x ≡ y
-update-tells (update.At a) (update.At b) e =
-    let same : a .0 ≡ b .0 = cc in
-    ap update.At (tai-count-tells a b same)
+update-tells (update.At a) (update.At b) e = ap update.At (tai-count-tells a b (cc))
 update-tells (update.At a) update.Nothing e = cc
 update-tells (update.At a) (update.Refused r) e = cc
 update-tells update.Nothing (update.At b) e = cc
@@ -77,14 +60,10 @@ update-tells update.Nothing update.Nothing e = cc
 update-tells update.Nothing (update.Refused r) e = cc
 update-tells (update.Refused r) (update.At b) e = cc
 update-tells (update.Refused r) update.Nothing e = cc
-update-tells (update.Refused r) (update.Refused s) e =
-    let same : numberOf r ≡ numberOf s = cc in
-    ap update.Refused (number-tells r s same)
+update-tells (update.Refused r) (update.Refused s) e = ap update.Refused (number-tells r s (cc))
 
 pub offset-tells : (x y : OffsetAnswer) → offsetIn x ≡ offsetIn y → x ≡ y
 offset-tells (offset.Offset n) (offset.Offset m) e = cc
 offset-tells (offset.Offset n) (offset.Refused r) e = cc
 offset-tells (offset.Refused r) (offset.Offset m) e = cc
-offset-tells (offset.Refused r) (offset.Refused s) e =
-    let same : numberOf r ≡ numberOf s = cc in
-    ap offset.Refused (number-tells r s same)
+offset-tells (offset.Refused r) (offset.Refused s) e = ap offset.Refused (number-tells r s (cc))
