@@ -1,6 +1,6 @@
 -- What the test of a table's validity gives to a call: its 8, or a valid list of at most 64 entries that lie within the
 -- slots.
-use mathlib.Core.Path.{_≡_, refl, ap}
+use mathlib.Core.Path.{_≡_, refl, sym, ap}
 use mathlib.Core.Bool.{Bool, true, false, cond}
 use mathlib.Core.List.{List}
 use Prim.Native.Nat.{ℕ, _≤_}
@@ -13,6 +13,7 @@ use Rattle.refusals.specs.Outcome.{Outcome, answered, refused, then, changed}
 use Rattle.tables.specs.Entries.{valid}
 use Rattle.tables.specs.Slots.{slots, entriesOf, validSlots, validTable, ofValidSlots, ofValid}
 use Rattle.tables.specs.declared.LeapTable.{LeapTable}
+use Rattle.tables.proofs.FirstSlots.{slots-length}
 use Rattle.tables.proofs.Neighbours.{both}
 
 -- slots as they are lent
@@ -54,6 +55,13 @@ checked t h h′ v =
       in-offsets = omega arith;
       is-valid = valid-slots (t .thresholds) (t .offsets) (t .len) v;
     }
+
+module _ {t : LeapTable} (k : Checked t) where
+  pub length-is : length (entriesOf t) ≡ t .len
+  length-is = slots-length (t .thresholds) (t .offsets) (t .len) (k .in-thresholds) (k .in-offsets)
+
+  pub answers : {A : Type 0} {a b : A} → b ≡ a → answered a ≡ ofValid t (answered b)
+  answers e = rw (k .passes) (ap answered (sym e))
 
 -- 8 stays first where a step follows
 module _ {A B : Type 0} where
