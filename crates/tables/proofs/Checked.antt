@@ -9,34 +9,19 @@ use borrow.Author.Tests.{leb-true}
 use lib.Dec.{leb}
 use lib.ListN.{length}
 use lib.IntN.{ℤ}
-use Rattle.refusals.specs.Outcome.{Outcome, answered, refused, then, changed}
+use Rattle.refusals.specs.Outcome.{Outcome, answered, refused, refusalIn, valueIn, then, changed}
 use Rattle.tables.specs.Entries.{valid}
-use Rattle.tables.specs.Slots.{slots, entriesOf, validSlots, validTable, ofValidSlots, ofValid}
+use Rattle.tables.specs.Slots.{slots, entriesOf, validSlots, validTable, ofValid}
 use Rattle.tables.specs.declared.LeapTable.{LeapTable}
 use Rattle.tables.proofs.FirstSlots.{slots-length}
 use Rattle.tables.proofs.Neighbours.{both}
 
--- slots as they are lent
-module _ (xs : List ℕ) (zs : List ℤ) (n : ℕ) where
-  pub bad-slots : {A : Type 0} (a : Outcome A) → validSlots xs zs n ≡ false → refused 8 ≡ ofValidSlots xs zs n a
-  bad-slots a v = rw v
+pub few-and-valid : (xs : List ℕ) (zs : List ℤ) (n : ℕ) → validSlots xs zs n ≡ true
+    → (n ≤ 64) × (valid (slots xs zs n) ≡ true)
+few-and-valid xs zs n v = let b = both (leb n 64) (valid (slots xs zs n)) v in (leb-true n 64 (b .0), b .1)
 
-  pub good-slots : {A : Type 0} (a : Outcome A) → validSlots xs zs n ≡ true → a ≡ ofValidSlots xs zs n a
-  good-slots a v = rw v
-
-  pub few-slots : validSlots xs zs n ≡ true → n ≤ 64
-  few-slots v = leb-true n 64 (both (leb n 64) (valid (slots xs zs n)) v .0)
-
-  pub valid-slots : validSlots xs zs n ≡ true → valid (slots xs zs n) ≡ true
-  valid-slots v = both (leb n 64) (valid (slots xs zs n)) v .1
-
--- a table by value
-module _ {A : Type 0} (t : LeapTable) (a : Outcome A) where
-  pub bad : validTable t ≡ false → refused 8 ≡ ofValid t a
-  bad v = rw v
-
-  pub good : validTable t ≡ true → a ≡ ofValid t a
-  good v = rw v
+pub good : {A : Type 0} (t : LeapTable) (a : Outcome A) → validTable t ≡ true → a ≡ ofValid t a
+good t a v = rw v
 
 pub record Checked (t : LeapTable) : Type 0 where
   pub passes : validTable t ≡ true
@@ -47,14 +32,8 @@ pub record Checked (t : LeapTable) : Type 0 where
 
 pub checked : (t : LeapTable) → length (t .thresholds) ≡ 64 → length (t .offsets) ≡ 64 → validTable t ≡ true → Checked t
 checked t h h′ v =
-    let few = few-slots (t .thresholds) (t .offsets) (t .len) v in
-    record {
-      passes = v;
-      few = few;
-      in-thresholds = omega arith;
-      in-offsets = omega arith;
-      is-valid = valid-slots (t .thresholds) (t .offsets) (t .len) v;
-    }
+    let k = few-and-valid (t .thresholds) (t .offsets) (t .len) v in
+    record { passes = v; few = k .0; in-thresholds = omega arith; in-offsets = omega arith; is-valid = k .1 }
 
 module _ {t : LeapTable} (k : Checked t) where
   pub length-is : length (entriesOf t) ≡ t .len
@@ -79,13 +58,13 @@ module _ {A B : Type 0} where
 module _ {A : Type 0} (a : A) where
   pub told-valid : (v : Bool) {b : A} → answered b ≡ cond v (answered a) (refused 8) → v ≡ true
   told-valid true e = refl
-  told-valid false e = cc
+  told-valid false e = absurd (omega (arith, ap refusalIn e))
 
   pub told-answer : (v : Bool) {b : A} → answered b ≡ cond v (answered a) (refused 8) → b ≡ a
-  told-answer true e = cc
-  told-answer false e = cc
+  told-answer true e = ap (valueIn a) e
+  told-answer false e = absurd (omega (arith, ap refusalIn e))
 
   pub told-refusal : {B : Type 0} (v : Bool) {k : ℕ} (o : Outcome B) → refused k ≡ cond v (answered a) (refused 8)
       → refused k ≡ cond v o (refused 8)
-  told-refusal true {k} o e = cc
-  told-refusal false {k} o e = let same : k ≡ 8 = cc in ap refused same
+  told-refusal true o e = cc
+  told-refusal false o e = ap (λ (x : Outcome A). refused (refusalIn x)) e

@@ -1,13 +1,10 @@
 -- `inner::look_up` tells what is in force: the search counts the thresholds at or below the reading, and the last of
 -- their entries is in force.
 use mathlib.Core.Path.{sym, ap, _∙_}
-use Prim.Native.Nat.{ℕ}
 use native.Mathlib.Omega.{arith}
 use denote.Ref.{now}
 use lib.ListN.{getD}
 use lib.IntN.{ℤ, pos}
-use mir.Syntax.{w32}
-use mir.Val.{SFits}
 use mir.Facts.{toZ-ofZ}
 use Rattle.tables.specs.Entries.{entry, telling}
 use Rattle.tables.proofs.InForce.{rises, lookup-is, none-in-force}
@@ -25,13 +22,13 @@ count-at-or-below-requires c κs =
 returns-2 : call.Tie.Need-returns-2
 returns-2 c =
     let place = c .before .place-in-force in
-    let search-for = c .before .before .count-at-or-below in
+    let reached = c .before .before .count-at-or-below in
     let a = c .before .before .before .before .before .args in
-    let fits : SFits w32 (getD (now (a .offsets)) (place .result) (pos 0)) = search needs in
-    ap (λ (z : ℤ). telling (entry 0 z)) (toZ-ofZ fits ∙ ap (λ (i : ℕ). getD (now (a .offsets)) i (pos 0)) (place .ensures))
+    ap (λ (z : ℤ). telling (entry 0 z))
+    (toZ-ofZ (search needs) ∙ (λ j. getD (now (a .offsets)) (place .ensures j) (pos 0)))
     ∙ sym
-    (lookup-is (now (a .thresholds)) (now (a .offsets)) (a .n) (search needs) (search needs) (a .tai) (search-for .result)
-    (omega (arith, c .before .before .before .if1 .left)) (search-for .ensures))
+    (lookup-is (now (a .thresholds)) (now (a .offsets)) (a .n) (search needs) (search needs) (a .tai) (reached .result)
+    (omega (arith, c .before .before .before .if1 .left)) (reached .ensures))
 
 pub look-up-spec : {M : Type 1} → call.Statement.statement M
 look-up-spec =

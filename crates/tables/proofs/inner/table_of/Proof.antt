@@ -8,14 +8,14 @@ use denote.Ref.{now}
 use lib.ListN.{getD, replicate}
 use lib.IntN.{pos}
 use mir.Syntax.{w32}
-use mir.Val.{SFits}
 use mir.Facts.{toZ-ofZ}
 use Rattle.tables.proofs.Filled.{over, over-more, table-is}
 use Rattle.tables.proofs.inner.table_of as call
 
 abbrev Inv-loop : call.Tie.InvT-loop
 Inv-loop thresholds offsets n kept-thresholds₀ kept-offsets₀ i₀ kept-thresholds kept-offsets i =
-    (i ≤ n) × (kept-thresholds ≡ over (replicate 64 0) thresholds i) × (kept-offsets ≡ over (replicate 64 (pos 0)) offsets i)
+    (i ≤ n) × (kept-thresholds ≡ over (replicate 64 0) thresholds i)
+    × (kept-offsets ≡ over (replicate 64 (pos 0)) offsets i)
 
 abbrev μ-loop : call.Tie.MeasureT-loop
 μ-loop thresholds offsets n kept-thresholds₀ kept-offsets₀ i₀ kept-thresholds kept-offsets i = n - i
@@ -27,11 +27,12 @@ loop-again : call.Tie.Need-loop-again Inv-loop μ-loop
 loop-again c =
     let at = c .before .before .before in
     let i = at .loop .i in
-    let a = at .before .args in
-    let fits : SFits w32 (getD (now (a .offsets)) i (pos 0)) = search needs in (
+    let a = at .before .args in (
       search needs,
-      rw (at .loop .inv .1, add-one) (over-more (replicate 64 0) (now (a .thresholds)) i 0 (search needs) (search needs)),
-      rw (toZ-ofZ fits, at .loop .inv .2, add-one) (over-more (replicate 64 (pos 0)) (now (a .offsets)) i (pos 0) (search needs) (search needs)),
+      rw (at .loop .inv .1, add-one)
+          (over-more (replicate 64 0) (now (a .thresholds)) i 0 (search needs) (search needs)),
+      rw (toZ-ofZ {w = w32} {z = getD (now (a .offsets)) i (pos 0)} (search needs), at .loop .inv .2, add-one)
+          (over-more (replicate 64 (pos 0)) (now (a .offsets)) i (pos 0) (search needs) (search needs)),
     )
 
 returns : call.Tie.Need-returns Inv-loop μ-loop
