@@ -1,8 +1,7 @@
 -- `inner::count_at_or_below` counts the thresholds at or below the reading: the halves meet where they part.
-use Prim.Native.Nat.{_+_, _-_, _/_}
+use Prim.Native.Nat.{_-_}
 use native.Mathlib.Omega.{arith}
 use borrow.Author.Needs.{needs}
-use denote.Ref.{now}
 use Rattle.tables.proofs.Halving.{Halves, whole, met, up, down}
 use Rattle.tables.proofs.inner.count_at_or_below as call
 
@@ -13,26 +12,20 @@ abbrev μ-loop : call.Tie.MeasureT-loop
 μ-loop thresholds n tai low₀ high₀ low high = high - low
 
 loop-holds : call.Tie.Need-loop-holds Inv-loop μ-loop
-loop-holds c = whole (now (c .args .thresholds)) (c .args .n) (c .args .tai)
+loop-holds c = whole _ _ _
 
 loop-again : call.Tie.Need-loop-again Inv-loop μ-loop
 loop-again c =
     let at = c .before .before .before in
-    let a = at .before .args in
-    up (now (a .thresholds)) (a .n) (a .tai) (at .before .pre .1) (at .loop .low) (at .loop .high)
-    (at .loop .low + (at .loop .high - at .loop .low) / 2) (at .loop .inv) (omega arith) (omega arith) (c .if1 .taken)
+    up _ _ _ (at .before .pre .1) _ _ _ (at .loop .inv) (omega arith) (omega arith) (c .if1 .taken)
 
 loop-again-2 : call.Tie.Need-loop-again-2 Inv-loop μ-loop
 loop-again-2 c =
     let at = c .before .before .before in
-    let a = at .before .args in
-    down (now (a .thresholds)) (a .n) (a .tai) (at .before .pre .1) (at .loop .low) (at .loop .high)
-    (at .loop .low + (at .loop .high - at .loop .low) / 2) (at .loop .inv) (omega arith) (omega arith) (c .if1 .left)
+    down _ _ _ (at .before .pre .1) _ _ _ (at .loop .inv) (omega arith) (omega arith) (c .if1 .left)
 
 returns : call.Tie.Need-returns Inv-loop μ-loop
-returns c =
-    let a = c .before .before .args in
-    met (now (a .thresholds)) (a .n) (a .tai) (c .before .loop .low) (c .before .loop .high) (c .before .loop .inv) (c .loop-test .left)
+returns c = met _ _ _ _ _ (c .before .loop .inv) (c .loop-test .left)
 
 pub count-at-or-below-spec : {M : Type 1} → call.Statement.statement M
 count-at-or-below-spec =

@@ -10,14 +10,11 @@ returns : call.Tie.Need-returns
 returns c = rw (c .if1 .taken) (sym (empty-takes (c .before .before .args .entry)))
 
 returns-2 : call.Tie.Need-returns-2
-returns-2 c =
-    let a = c .before .before .before .args in
-    sym (full-slots (now (a .thresholds)) (now (a .offsets)) (a .n) (search needs) (search needs) (a .entry) (c .if2 .taken))
+returns-2 c = sym (full-slots _ _ _ (search needs) (search needs) _ (c .if2 .taken))
 
 returns-3 : call.Tie.Need-returns-3
 returns-3 c =
-    let s = c .before .before .before .before .before in
-    let a = s .args in
+    let a = c .before .before .before .before .before .args in
     rw (c .step .ensures, c .before .slot .ensures)
     (sym
     (by-last-slot (now (a .thresholds)) (now (a .offsets)) (a .n) (search needs) (search needs) (a .entry)

@@ -17,7 +17,8 @@ returns c = rw (c .before .if1 .taken) (c .told-of-none .ensures ∙ none-in-for
 count-at-or-below-requires : call.Tie.Need-count-at-or-below-requires
 count-at-or-below-requires c κs =
     let a = c .before .before .args in
-    (search needs, rises (now (a .thresholds)) (now (a .offsets)) (a .n) (search needs) (search needs) (c .before .before .pre .1 .1))
+    let v = c .before .before .pre .1 .1 in
+    (search needs, rises (now (a .thresholds)) (now (a .offsets)) (a .n) (search needs) (search needs) v)
 
 returns-2 : call.Tie.Need-returns-2
 returns-2 c =
