@@ -2,11 +2,11 @@
 use mathlib.Core.Path.{_≡_, refl, sym, ap, _∙_}
 use mathlib.Core.Bool.{true}
 use mathlib.Core.List.{List, [], _∷_, _++_, map}
-use Prim.Native.Nat.{ℕ, _-_, _≤_, _<_}
+use Prim.Native.Nat.{ℕ, _-_, _≤_}
 use native.Mathlib.Omega.{arith}
-use native.Mathlib.Decide.{decLt}
 use denote.Ref.{now}
-use borrow.Author.Tests.{le-leb, lt-ltb, le-ltb, ne-eqb}
+use borrow.Author.Tests.{le-leb, ltb-false, ne-eqb}
+use lib.Dec.{ltb}
 use lib.ListN.{length, take, replicate}
 use lib.Seq.{take-append-seam}
 use lib.IntN.{ℤ, pos}
@@ -19,6 +19,7 @@ use Rattle.tables.specs.declared.LeapTable.{LeapTable}
 use Rattle.tables.specs.declared.Taken.{Taken}
 use Rattle.tables.specs.declared.Taken.the-variants as taken
 use Rattle.tables.proofs.Neighbours.{passes-valid}
+use Rattle.tables.proofs.Growing.{not-too-long}
 use Rattle.tables.proofs.LeapTable.from_lists.Reads as from-lists-contract
 
 -- the table after an accepted building: the list itself, its length that list's length
@@ -58,14 +59,10 @@ module _ (es : List Entry) where
   building-refused n = rw (ne-eqb (buildingRefusal es) 0 n)
 
   pub building-builds : built es .0 ≡ 0 → Builds es (built es .1)
-  building-builds z = rw z (go (decLt 64 (length es)))
-    where
-      go : Dec (64 < length es) → Builds es (tableOf es)
-      go (yes l) = let five : _≡_ {A = ℕ} 5 0 = rw (lt-ltb 64 (length es) l) at z in absurd (omega arith)
-      go (no l) =
-          let few : length es ≤ 64 = omega (arith, l) in
-          let passes : checking es ≡ 0 = rw (le-ltb 64 (length es) few) at z in
-          record { list = table-list es; size = refl; valid = table-valid es few (checked-valid es passes) }
+  building-builds z =
+      let h = not-too-long (ltb 64 (length es)) z in
+      let v = table-valid es (ltb-false 64 (length es) (h .0)) (checked-valid es (h .1)) in
+      rw z (record { list = table-list es; size = refl; valid = v })
 
   -- whatever gives the number and the table of the definition
   pub makes : (answer : Taken) (table : LeapTable) → (takenIn answer, table) ≡ built es → Makes es answer table

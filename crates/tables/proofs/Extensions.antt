@@ -1,13 +1,13 @@
 -- An accepted extension joins its entry to the list and moves no other slot, since only the slot at the length is set.
 -- A refused one keeps the table.
 use mathlib.Core.Path.{_≡_, refl, sym, ap, _∙_}
-use mathlib.Core.Bool.{Bool, true, false}
+use mathlib.Core.Bool.{Bool, true, false, cond}
 use mathlib.Core.List.{List, [], _∷_, _++_, map}
-use Prim.Native.Nat.{ℕ, _+_, _-_, _≤_, _<_}
+use Prim.Native.Nat.{ℕ, _+_, _-_, _≤_}
 use native.Mathlib.Omega.{arith}
-use native.Mathlib.Decide.{decLt}
 use native.Mathlib.Numerals.{add-one}
-use borrow.Author.Tests.{le-leb, lt-leb, ne-eqb}
+use borrow.Author.Tests.{le-leb, ne-eqb}
+use lib.Dec.{leb}
 use lib.ListN.{length, length-append, length-map, length-replicate, length-set, replicate, getD}
 use lib.Seq.{getD-set-other}
 use lib.IntN.{pos}
@@ -20,10 +20,10 @@ use Rattle.tables.specs.declared.LeapEntry.{LeapEntry}
 use Rattle.tables.specs.declared.LeapTable.{LeapTable}
 use Rattle.tables.specs.declared.Taken.{Taken}
 use Rattle.tables.specs.declared.Taken.the-variants as taken
-use Rattle.tables.proofs.FirstSlots.{one-stored, slots-length}
+use Rattle.tables.proofs.FirstSlots.{one-stored}
 use Rattle.tables.proofs.Neighbours.{both, zero-follows}
-use Rattle.tables.proofs.Checked.{checked}
-use Rattle.tables.proofs.Growing.{has-room}
+use Rattle.tables.proofs.Checked.{checked, length-is}
+use Rattle.tables.proofs.Growing.{not-too-long, has-room}
 use Rattle.tables.proofs.LeapTable.try_extend.Reads as try-extend-contract
 
 -- the arrays of a table have 64 slots each, as their type says
@@ -56,14 +56,8 @@ valid-joined p (q ∷ qs) e v f =
 pub stays-valid : (es : List Entry) (e : Entry) → valid es ≡ true → 0 ≡ joinRefusal es e → valid (es ++ e ∷ []) ≡ true
 unfolding neighbours joinRefusal
 stays-valid [] e v z = refl
-stays-valid (p ∷ ps) e v z = go (decLt (length (p ∷ ps)) 64)
-  where
-    go : Dec (length (p ∷ ps) < 64) → valid (p ∷ ps ++ e ∷ []) ≡ true
-    go (yes l) =
-        valid-joined p ps e v (zero-follows (lastOr p ps) e (sym (z ∙ simp (lt-leb 64 (length (p ∷ ps)) l))))
-    go (no l) =
-        let five : _≡_ {A = ℕ} 0 5 = z ∙ simp (le-leb 64 (length (p ∷ ps)) (omega (arith, l))) in
-        absurd (omega arith)
+stays-valid (p ∷ ps) e v z =
+    valid-joined p ps e v (zero-follows (lastOr p ps) e (not-too-long (leb 64 (length (p ∷ ps))) (sym z) .1))
 
 module _ (t : LeapTable) (e : LeapEntry) where
   -- a refused extension keeps the table, all its slots included
@@ -71,29 +65,25 @@ module _ (t : LeapTable) (e : LeapEntry) where
   refusal-keeps n = rw (ne-eqb (extensionRefusal t e) 0 n)
 
   accepted : extensionRefusal t e ≡ 0 → (validTable t ≡ true) × (0 ≡ joinRefusal (entriesOf t) e)
-  accepted z = by-test (validTable t) refl
+  accepted z = by-test (validTable t) z
     where
-      by-test : (b : Bool) → validTable t ≡ b → (validTable t ≡ true) × (0 ≡ joinRefusal (entriesOf t) e)
-      by-test true v = (v, sym (rw v at z))
-      by-test false v = let eight : _≡_ {A = ℕ} 8 0 = rw v at z in absurd (omega arith)
+      by-test : (b : Bool) {k : ℕ} → cond b k 8 ≡ 0 → (b ≡ true) × (0 ≡ k)
+      by-test true z = (refl, sym z)
+      by-test false z = absurd (omega arith)
 
   module _ (s : Sized t) where
     joined-grows : validTable t ≡ true → 0 ≡ joinRefusal (entriesOf t) e → Grows t e (joinedTo t e)
     joined-grows v z =
-        let h = s .thresholds in
-        let h′ = s .offsets in
-        let k = checked t h h′ v in
+        let k = checked t (s .thresholds) (s .offsets) v in
         let room = has-room (t .thresholds) (t .offsets) (t .len) e (k .in-thresholds) (k .in-offsets) z in
         let list : entriesOf (joinedTo t e) ≡ entriesOf t ++ e ∷ [] =
-        rw add-one (one-stored (t .thresholds) (t .offsets) (t .len) (e .«tai_nanos») (e .«tai_minus_utc») (omega arith) (omega arith)) in
-        let few : t .len + 1 ≤ 64 = omega arith in
+        rw add-one (one-stored (t .thresholds) (t .offsets) (t .len) _ _ (omega arith) (omega arith)) in
         record {
           list = list;
-          size =
-              sym (length-append (entriesOf t) (e ∷ []) ∙ ap (λ (n : ℕ). n + 1) (slots-length (t .thresholds) (t .offsets) (t .len) (k .in-thresholds) (k .in-offsets)));
-          thresholds = λ i n. getD-set-other (t .thresholds) (t .len) i (e .«tai_nanos») 0 n;
-          offsets = λ i n. getD-set-other (t .offsets) (t .len) i (e .«tai_minus_utc») (pos 0) n;
-          valid = rw (le-leb (t .len + 1) 64 few, list) (stays-valid (entriesOf t) e (k .is-valid) z);
+          size = sym (length-append (entriesOf t) (e ∷ []) ∙ ap (λ (n : ℕ). n + 1) (length-is k));
+          thresholds = λ i n. getD-set-other (t .thresholds) (t .len) i (threshold e) 0 n;
+          offsets = λ i n. getD-set-other (t .offsets) (t .len) i (offset e) (pos 0) n;
+          valid = rw (le-leb (t .len + 1) 64 (omega arith), list) (stays-valid (entriesOf t) e (k .is-valid) z);
         }
 
     pub extension-grows : extended t e .0 ≡ 0 → Grows t e (extended t e .1)

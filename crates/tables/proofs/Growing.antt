@@ -1,5 +1,6 @@
 -- When an extension has room, and what a building gives, by the number that its rule gives.
 use mathlib.Core.Path.{_≡_, refl, sym, ap, _∙_}
+use mathlib.Core.Bool.{Bool, true, false, cond}
 use mathlib.Core.List.{List, [], _∷_}
 use Prim.Native.Nat.{ℕ, _≤_, _<_, min}
 use native.Mathlib.Omega.{arith}
@@ -11,6 +12,11 @@ use Rattle.tables.specs.Entries.{Entry, joinRefusal, firstRefusal, check
 use Rattle.tables.specs.Slots.{paired, slots, tableOf, built}
 use Rattle.tables.proofs.FirstSlots.{whole, paired-length}
 use Rattle.tables.proofs.Joining.{full-slots}
+
+-- a list that is too long is refused by 5 first
+pub not-too-long : (long : Bool) {k : ℕ} → cond long 5 k ≡ 0 → (long ≡ false) × (k ≡ 0)
+not-too-long true z = absurd (omega arith)
+not-too-long false z = (refl, z)
 
 -- an entry is taken only where there is room
 pub has-room : (xs : List ℕ) (zs : List ℤ) (n : ℕ) (e : Entry) → n ≤ length xs → n ≤ length zs

@@ -3,7 +3,6 @@
 use mathlib.Core.Path.{_≡_, refl, sym, ap, _∙_}
 use Prim.Native.Nat.{_-_, _≤_}
 use borrow.Author.Needs.{needs}
-use denote.Ref.{now}
 use lib.ListN.{drop}
 use mir.Syntax.{w32}
 use mir.Val.{SFits}
@@ -28,11 +27,9 @@ returns : call.Tie.Need-returns Inv-loop μ-loop
 returns c =
     let s = c .before .before .before in
     let at = s .before .before .before .before in
-    let a = at .before .before .args in
     let why = c .before .why .given in
     let fits : SFits w32 (offset (s .before .slot2 .result)) = search needs in
-    stops (now (a .thresholds)) (now (a .offsets)) (at .loop .i) (a .n) (at .loop .inv .0)
-    (search needs) (search needs) (search needs) _
+    stops _ _ _ (at .before .before .args .n) (at .loop .inv .0) (search needs) (search needs) (search needs) _
     (sym (ap takenIn (why .1)) ∙ s .step .ensures
     ∙ (λ j. stepRefusal (s .before .before .slot .ensures j) (s .before .slot2 .ensures j)))
     (at .loop .inv .1) (rw (s .before .slot2 .ensures) at fits) (number-not-zero (why .0 .0))
@@ -40,21 +37,15 @@ returns c =
 loop-again : call.Tie.Need-loop-again Inv-loop μ-loop
 loop-again c =
     let s = c .before .before in
-    let at = s .before .before .before .before in
-    let a = at .before .before .args in
-    let left =
-    goes-on (now (a .thresholds)) (now (a .offsets)) (at .loop .i) (a .n) (at .loop .inv .0)
-    (search needs) (search needs) (search needs) _
-    (s .step .ensures ∙ (λ j. stepRefusal (s .before .before .slot .ensures j) (s .before .slot2 .ensures j)))
-    (at .loop .inv .1) (ap takenIn (c .enum-told .given .1)) in
-    (search needs, left)
+    let at = s .before .before .before .before in (
+      search needs,
+      goes-on _ _ _ (at .before .before .args .n) (at .loop .inv .0) (search needs) (search needs) (search needs) _
+          (s .step .ensures ∙ (λ j. stepRefusal (s .before .before .slot .ensures j) (s .before .slot2 .ensures j)))
+          (at .loop .inv .1) (ap takenIn (c .enum-told .given .1)),
+    )
 
 returns-2 : call.Tie.Need-returns-2 Inv-loop μ-loop
-returns-2 c =
-    let a = c .before .before .before .args in
-    let at = c .before .loop in
-    passed (now (a .thresholds)) (now (a .offsets)) (at .i) (a .n) (c .loop-test .left) (search needs) (search needs)
-    (at .inv .1)
+returns-2 c = passed _ _ _ _ (c .loop-test .left) (search needs) (search needs) (c .before .loop .inv .1)
 
 pub first-refusal-spec : {M : Type 1} → call.Statement.statement M
 first-refusal-spec =

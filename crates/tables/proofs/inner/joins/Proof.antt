@@ -1,7 +1,6 @@
 -- `inner::joins` gives the number of extension's rule: the last slot judges the entry.
 use mathlib.Core.Path.{sym}
 use native.Mathlib.Omega.{arith}
-use denote.Ref.{now}
 use Rattle.tables.proofs.Joining.{empty-takes, full-slots, by-last-slot}
 use borrow.Author.Needs.{needs}
 use Rattle.tables.proofs.inner.joins as call
@@ -14,11 +13,10 @@ returns-2 c = sym (full-slots _ _ _ (search needs) (search needs) _ (c .if2 .tak
 
 returns-3 : call.Tie.Need-returns-3
 returns-3 c =
-    let a = c .before .before .before .before .before .args in
     rw (c .step .ensures, c .before .slot .ensures)
     (sym
-    (by-last-slot (now (a .thresholds)) (now (a .offsets)) (a .n) (search needs) (search needs) (a .entry)
-    (omega (arith, c .before .before .before .if1 .left)) (c .before .before .if2 .left)))
+    (by-last-slot _ _ _ (search needs) (search needs) _ (omega (arith, c .before .before .before .if1 .left))
+    (c .before .before .if2 .left)))
 
 pub joins-spec : {M : Type 1} → call.Statement.statement M
 joins-spec = call.Tie.close (call.Tie.spec returns returns-2 (search needs) (search needs) (search needs) returns-3)

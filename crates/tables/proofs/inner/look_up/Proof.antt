@@ -15,10 +15,7 @@ returns : call.Tie.Need-returns
 returns c = rw (c .before .if1 .taken) (c .told-of-none .ensures ∙ none-in-force (c .before .before .before .args .tai))
 
 count-at-or-below-requires : call.Tie.Need-count-at-or-below-requires
-count-at-or-below-requires c κs =
-    let a = c .before .before .args in
-    let v = c .before .before .pre .1 .1 in
-    (search needs, rises (now (a .thresholds)) (now (a .offsets)) (a .n) (search needs) (search needs) v)
+count-at-or-below-requires c κs = (search needs, rises _ _ _ (search needs) (search needs) (c .before .before .pre .1 .1))
 
 returns-2 : call.Tie.Need-returns-2
 returns-2 c =
@@ -28,8 +25,8 @@ returns-2 c =
     ap (λ (z : ℤ). telling (entry 0 z))
     (toZ-ofZ (search needs) ∙ (λ j. getD (now (a .offsets)) (place .ensures j) (pos 0)))
     ∙ sym
-    (lookup-is (now (a .thresholds)) (now (a .offsets)) (a .n) (search needs) (search needs) (a .tai) (reached .result)
-    (omega (arith, c .before .before .before .if1 .left)) (reached .ensures))
+    (lookup-is _ _ _ (search needs) (search needs) _ _ (omega (arith, c .before .before .before .if1 .left))
+    (reached .ensures))
 
 pub look-up-spec : {M : Type 1} → call.Statement.statement M
 look-up-spec =
