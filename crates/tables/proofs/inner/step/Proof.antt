@@ -12,35 +12,28 @@ use Rattle.tables.specs.Entries.{offset}
 use Rattle.tables.proofs.Integers.{equal-yes, equal-no, more-fits}
 use Rattle.tables.proofs.inner.step as call
 
-before-fits : (c : call.Tie.Start) → SFits w32 (offset (c .args .before))
-before-fits c = search needs
-
-next-fits : (c : call.Tie.Start) → SFits w32 (offset (c .args .next))
-next-fits c = search needs
-
-largest : (c : call.Tie.Then2) → offset (c .before .before .before .before .before .args .before) ≡ pos 2147483647
-largest c =
-    bits-tell (before-fits (c .before .before .before .before .before)) (sfits-lit {w = w32} {z = pos 2147483647} tt)
-    (c .if2 .taken)
-
 not-largest : (c : call.Tie.Else2) → offset (c .before .before .before .before .before .args .before) ≡ pos 2147483647
     → ⊥
 not-largest c e = c .if2 .left (ap (ofZ w32) e)
 
 one-more-fits : (c : call.Tie.Else2)
     → SFits w32 (offset (c .before .before .before .before .before .args .before) +ℤ pos 1)
-one-more-fits c =
-    let s = c .before .before .before .before .before in
-    more-fits (offset (s .args .before)) (before-fits s) (not-largest c)
+one-more-fits c = more-fits _ (search needs) (not-largest c)
 
 read-back : (c : call.Tie.Start) → toZ w32 (ofZ w32 (offset (c .args .before))) ≡ offset (c .args .before)
-read-back c = toZ-ofZ (before-fits c)
+read-back c = toZ-ofZ (search needs)
 
 returns : call.Tie.Need-returns
 returns c = simp (le-leb _ _ (c .if1 .taken))
 
 returns-2 : call.Tie.Need-returns-2
-returns-2 c = simp (lt-leb _ _ (c .before .before .if1 .left), equal-yes _ _ (largest c))
+returns-2 c =
+    let before = offset (c .before .before .before .before .before .args .before) in
+    let largest : SFits w32 (pos 2147483647) = sfits-lit tt in
+    simp (
+      lt-leb _ _ (c .before .before .if1 .left),
+      equal-yes before _ (bits-tell (search needs) largest (c .if2 .taken)),
+    )
 
 add-one-more : call.Tie.Need-add-one-more
 add-one-more c = rw (read-back (c .before .before .before .before .before)) (one-more-fits c)
@@ -52,7 +45,8 @@ returns-3 c =
     simp (
       lt-leb _ _ (m .before .before .if1 .left),
       equal-no _ _ (not-largest m),
-      equal-yes _ _ (bits-tell (next-fits s) (one-more-fits m) (rw (read-back s) at (c .if3 .taken))),
+      equal-yes (offset (s .args .next)) _
+          (bits-tell (search needs) (one-more-fits m) (rw (read-back s) at (c .if3 .taken))),
     )
 
 returns-4 : call.Tie.Need-returns-4
@@ -62,7 +56,8 @@ returns-4 c =
     simp (
       lt-leb _ _ (m .before .before .if1 .left),
       equal-no _ _ (not-largest m),
-      equal-no (offset (s .args .next)) (offset (s .args .before) +ℤ pos 1) (λ e. rw (read-back s) at (c .if3 .left) (ap (ofZ w32) e)),
+      equal-no (offset (s .args .next)) (offset (s .args .before) +ℤ pos 1)
+          (λ e. rw (read-back s) at (c .if3 .left) (ap (ofZ w32) e)),
     )
 
 pub step-spec : {M : Type 1} → call.Statement.statement M
