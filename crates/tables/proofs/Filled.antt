@@ -1,7 +1,8 @@
 -- A list written over from the front, one element at a turn, and the table that is made so.
-use mathlib.Core.Path.{_≡_, refl, ap, _∙_}
+use mathlib.Core.Path.{_≡_, refl, ap}
 use mathlib.Core.List.{List, [], _∷_, _++_, map}
 use Prim.Native.Nat.{ℕ, zero, suc, _-_, _≤_, _<_}
+use native.Mathlib.Nat.{sub-zero, zero-sub, suc-sub-suc}
 use native.Mathlib.Omega.{arith}
 use lib.ListN.{length, getD, set, take, drop, replicate}
 use lib.IntN.{ℤ, pos}
@@ -22,9 +23,9 @@ over-more (y ∷ d) (x ∷ s) zero z h k = refl
 over-more {A} (y ∷ d) (x ∷ s) (suc j) z h k = ap (λ (l : List A). x ∷ l) (over-more d s j z (omega arith) (omega arith))
 
 drop-same : {A : Type 0} (n m : ℕ) (z : A) → drop n (replicate m z) ≡ replicate (m - n) z
-drop-same {A} zero m z = let e : m ≡ m - 0 = omega arith in ap (λ (k : ℕ). replicate k z) e
-drop-same {A} (suc n) zero z = let e : 0 ≡ 0 - suc n = omega arith in ap (λ (k : ℕ). replicate k z) e
-drop-same {A} (suc n) (suc m) z = let e : m - n ≡ suc m - suc n = omega arith in drop-same n m z ∙ ap (λ (k : ℕ). replicate k z) e
+drop-same zero m z = rw sub-zero
+drop-same (suc n) zero z = rw zero-sub
+drop-same (suc n) (suc m) z = rw suc-sub-suc (drop-same n m z)
 
 thresholds-of : (n : ℕ) (xs : List ℕ) (zs : List ℤ) → n ≤ length zs → map threshold (slots xs zs n) ≡ take n xs
 unfolding paired
@@ -50,7 +51,6 @@ table-is xs zs n h k =
       slots-length xs zs n h k,
       thresholds-of n xs zs k,
       offsets-of n xs zs h,
-      ← drop-same {A =
-          ℕ} n 64 0,
+      ← drop-same {A = ℕ} n 64 0,
       ← drop-same n 64 (pos 0),
     )

@@ -1,5 +1,5 @@
 -- The first n slots of thresholds and offsets: how many they are, which entry stands in each, and what one more brings.
-use mathlib.Core.Path.{_≡_, refl, sym, ap, _∙_}
+use mathlib.Core.Path.{_≡_, refl, ap, _∙_}
 use mathlib.Core.List.{List, [], _∷_, _++_}
 use Prim.Native.Nat.{ℕ, zero, suc, _≤_, _<_, min}
 use native.Mathlib.Omega.{arith}
@@ -10,21 +10,13 @@ use lib.IntN.{ℤ, pos}
 use Rattle.tables.specs.Entries.{Entry, entry}
 use Rattle.tables.specs.Slots.{paired, slotAt, slots}
 
-pub room : (n : ℕ) (xs : List ℕ) (zs : List ℤ) → n ≤ length xs → n ≤ length zs → n ≤ length (paired xs zs)
+pub paired-length : (xs : List ℕ) (zs : List ℤ) → length (paired xs zs) ≡ min (length xs) (length zs)
 unfolding paired
-room zero xs zs h k = omega arith
-room (suc n) [] zs h k = h
-room (suc n) (x ∷ xs) [] h k = k
-room (suc n) (x ∷ xs) (z ∷ zs) h k = omega (arith, room n xs zs (omega arith) (omega arith))
+paired-length [] zs = omega arith
+paired-length (x ∷ xs) [] = omega arith
+paired-length (x ∷ xs) (z ∷ zs) = omega (arith, paired-length xs zs)
 
--- no more than the thresholds, and no more than the offsets
-pub no-longer : (xs : List ℕ) (zs : List ℤ) → (length (paired xs zs) ≤ length xs) × (length (paired xs zs) ≤ length zs)
-unfolding paired
-no-longer [] zs = omega arith
-no-longer (x ∷ xs) [] = omega arith
-no-longer (x ∷ xs) (z ∷ zs) = let h = no-longer xs zs in omega (arith, h)
-
-pub held : (k : ℕ) (xs : List ℕ) (zs : List ℤ) (d : Entry) → k < length xs → k < length zs
+held : (k : ℕ) (xs : List ℕ) (zs : List ℤ) (d : Entry) → k < length xs → k < length zs
     → getD (paired xs zs) k d ≡ slotAt xs zs k
 unfolding paired
 held zero (x ∷ xs) (z ∷ zs) d h l = refl
@@ -32,7 +24,7 @@ held (suc k) (x ∷ xs) (z ∷ zs) d h l = held k xs zs d (omega arith) (omega a
 held k [] zs d h l = absurd (omega arith)
 held k (x ∷ xs) [] d h l = absurd (omega arith)
 
-pub stored : (n : ℕ) (xs : List ℕ) (zs : List ℤ) (x : ℕ) (z : ℤ)
+stored : (n : ℕ) (xs : List ℕ) (zs : List ℤ) (x : ℕ) (z : ℤ)
     → paired (set xs n x) (set zs n z) ≡ set (paired xs zs) n (entry x z)
 unfolding paired
 stored n [] zs x z = refl
@@ -53,7 +45,7 @@ none-at (e ∷ es) (suc k) l = none-at es k (omega arith)
 
 module _ (xs : List ℕ) (zs : List ℤ) where
   pub slots-length : (n : ℕ) → n ≤ length xs → n ≤ length zs → length (slots xs zs n) ≡ n
-  slots-length n h k = length-take-le n (paired xs zs) (room n xs zs h k)
+  slots-length n h k = length-take-le n (paired xs zs) (omega (arith, paired-length xs zs))
 
   pub slot-is : (n k : ℕ) (d : Entry) → k < n → n ≤ length xs → n ≤ length zs
       → getD (slots xs zs n) k d ≡ slotAt xs zs k
@@ -62,7 +54,7 @@ module _ (xs : List ℕ) (zs : List ℤ) where
   pub one-more : (n : ℕ) → n < length xs → n < length zs
       → slots xs zs (suc n) ≡ slots xs zs n ++ slotAt xs zs n ∷ []
   one-more n h k =
-      take-suc (paired xs zs) n (entry 0 (pos 0)) (room (suc n) xs zs (omega arith) (omega arith))
+      take-suc (paired xs zs) n (entry 0 (pos 0)) (omega (arith, paired-length xs zs))
       ∙ ap (λ (e : Entry). slots xs zs n ++ e ∷ []) (held n xs zs (entry 0 (pos 0)) h k)
 
   -- an entry stored in the slot past the first n
@@ -70,19 +62,16 @@ module _ (xs : List ℕ) (zs : List ℤ) where
       → slots (set xs n x) (set zs n z) (suc n) ≡ slots xs zs n ++ entry x z ∷ []
   one-stored n x z h k =
       ap (take (suc n)) (stored n xs zs x z)
-      ∙ take-suc-set (paired xs zs) n (entry x z) (room (suc n) xs zs (omega arith) (omega arith))
+      ∙ take-suc-set (paired xs zs) n (entry x z) (omega (arith, paired-length xs zs))
 
   pub whole : slots xs zs (min (length xs) (length zs)) ≡ paired xs zs
-  whole = take-all (min (length xs) (length zs)) (paired xs zs) (let l = no-longer xs zs in omega (arith, l))
-
-  pub paired-length : length (paired xs zs) ≡ min (length xs) (length zs)
-  paired-length = ap length (sym whole) ∙ slots-length (min (length xs) (length zs)) (omega arith) (omega arith)
+  whole = take-all (min (length xs) (length zs)) (paired xs zs) (omega (arith, paired-length xs zs))
 
 module _ (xs : List ℕ) (zs : List ℤ) (n : ℕ) (h : n ≤ length xs) (h′ : n ≤ length zs) (k : ℕ) where
   pub there : k < n → getElem? (slots xs zs n) k ≡ some (slotAt xs zs k)
   there l =
-      let s = slots-length xs zs n h h′ in
-      some-at (slots xs zs n) k (entry 0 (pos 0)) (omega arith) ∙ ap some (slot-is xs zs n k (entry 0 (pos 0)) l h h′)
+      some-at (slots xs zs n) k (entry 0 (pos 0)) (omega (arith, slots-length xs zs n h h′))
+      ∙ ap some (slot-is xs zs n k (entry 0 (pos 0)) l h h′)
 
   pub past : n ≤ k → getElem? (slots xs zs n) k ≡ none
-  past l = none-at (slots xs zs n) k (let s = slots-length xs zs n h h′ in omega arith)
+  past l = none-at (slots xs zs n) k (omega (arith, slots-length xs zs n h h′))

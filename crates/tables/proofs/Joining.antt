@@ -73,4 +73,4 @@ module _ (xs : List ℕ) (zs : List ℤ) (n : ℕ) (h : n ≤ length xs) (h′ :
       go p (q ∷ qs) s = refl
 
   pub no-update-slot : n ≤ 1 → lastUpdate (slots xs zs n) ≡ none
-  no-update-slot l = no-update (slots xs zs n) (let e = slots-length xs zs n h h′ in omega arith)
+  no-update-slot l = no-update (slots xs zs n) (omega (arith, slots-length xs zs n h h′))
