@@ -2,7 +2,8 @@
 use mathlib.Core.Path.{_≡_, refl, sym, ap, _∙_}
 use mathlib.Core.Bool.{Bool, true, false, cond, _&&_}
 use mathlib.Core.List.{List}
-use Prim.Native.Nat.{ℕ}
+use Prim.Native.Nat.{ℕ, _<_}
+use native.Mathlib.Omega.{arith}
 use borrow.Author.Tests.{eqb-true}
 use lib.ListN.{length}
 use Rattle.refusals.specs.Outcome.{Outcome, answered, refused, then, changed}
@@ -22,10 +23,15 @@ module _ (b : List ℕ) where
     pub size : length b ≡ 776
     pub table : Checked (tableIn b)
 
-  pub held : holds ≡ true → Held
-  held v =
-      let h = both (sized b) (validTable (tableIn b)) v in
-      record { passes = v; size = eqb-true (length b) 776 (h .0); table = checked (tableIn b) (thresholds-count b) (offsets-count b) (h .1) }
+  pub held : {v : Bool} → v ≡ holds → v ≡ true → Held
+  held e t =
+      let passes = sym e ∙ t in
+      let h = both (sized b) (validTable (tableIn b)) passes in
+      record {
+        passes = passes;
+        size = eqb-true (length b) 776 (h .0);
+        table = checked (tableIn b) (thresholds-count b) (offsets-count b) (h .1);
+      }
 
   -- the size and the table are one test
   module _ {A : Type 0} (o : Outcome A) where
@@ -36,11 +42,8 @@ module _ (b : List ℕ) where
         by-size true v = refl
         by-size false v = refl
 
-    pub by-held : Held → o ≡ byImage b (λ es. o)
-    by-held h = sym (one-test ∙ rw (h .passes))
-
-    pub by-none : holds ≡ false → refused 8 ≡ byImage b (λ es. o)
-    by-none e = sym (one-test ∙ rw e)
+    pub refuses : {v : Bool} → v ≡ holds → v ≡ false → refused 8 ≡ byImage b (λ es. o)
+    refuses e t = sym (one-test ∙ rw (sym e ∙ t))
 
   -- 8 stays first where a step follows
   module _ {A B : Type 0} (answer : List Entry → Outcome A) where
@@ -61,3 +64,11 @@ module _ (b : List ℕ) where
       by-test : (v : Bool) → refused k ≡ cond v (answered a) (refused 8) → false ≡ v
       by-test true e = cc
       by-test false e = refl
+
+-- a reader of a table that is held answers by its slots
+module _ {b : List ℕ} (h : Held b) where
+  pub answers : {A : Type 0} {x y : A} → x ≡ y → answered x ≡ byImage b (λ es. answered y)
+  answers {x} {y} e = ap answered e ∙ sym (one-test b (answered y) ∙ rw (h .passes))
+
+  pub slot-within : {n i : ℕ} → n ≡ tableIn b .len → i < n → (length b ≡ 776) × (i < 64)
+  slot-within e l = (h .size, omega (arith, h .table .few))

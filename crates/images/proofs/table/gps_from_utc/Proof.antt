@@ -1,6 +1,6 @@
 -- `table::gps_from_utc`: a checked lookup at the first reading, and a lookup in the same image, which now holds a valid
 -- table, at the last.
-use mathlib.Core.Path.{_≡_, sym, ap, _∙_}
+use mathlib.Core.Path.{_≡_, refl, sym, ap, _∙_}
 use mathlib.Core.Bool.{cond}
 use denote.Ref.{now}
 use Rattle.refusals.specs.Outcome.{answered, refused}
@@ -26,7 +26,7 @@ told c =
     ∙ one-test (now (start c .args .image)) _
 
 valid-table : (c : call.Tie.After-first) → Held (now (start c .args .image))
-valid-table c = held _ (told-valid _ (holds (now (start c .args .image))) (told c))
+valid-table c = held _ refl (told-valid _ (holds (now (start c .args .image))) (told c))
 
 look-up-requires : call.Tie.Need-look-up-requires
 look-up-requires c κs = let k = valid-table (c .before .before) in (k .size, k .table .passes)
