@@ -2,47 +2,44 @@
 use mathlib.Core.Path.{_≡_, ap, _∙_}
 use mathlib.Core.List.{List}
 use Prim.Native.Nat.{ℕ}
+use borrow.Author.Needs.{needs}
+use borrow.Author.Tests.{ne-eqb}
 use denote.Ref.{now}
 use mir.Facts.{toZ-ofZ}
 use Rattle.refusals.proofs.Tells.{number-not-zero}
 use Rattle.tables.specs.Answers.{takenIn, tableAnswerIn}
 use Rattle.tables.specs.Entries.{entry}
 use Rattle.tables.specs.Slots.{extended}
-use Rattle.images.specs.Image.{tableIn, stored}
-use Rattle.images.proofs.Whole.{of-size, not-of-size, refusal-stored, table-stored}
-use borrow.Author.Needs.{needs}
+use Rattle.images.specs.Image.{stored, imageExtended}
+use Rattle.images.proofs.Whole.{of-size, refusal-stored, table-stored}
 use Rattle.images.proofs.table.extend as call
 
 returns : call.Tie.Need-returns
-returns c = not-of-size (now (c .before .before .args .image)) _ _ (c .if1 .taken)
+returns c = rw (ne-eqb _ 776 (c .if1 .taken))
 
 -- the answer and the table are those of the extension of the table in the image
 extends : (c : call.Tie.After-try-extend)
-    → let a = c .before .before .before .before .before .args in
-    tableAnswerIn (c .try-extend .result) ≡ extended (tableIn (now (a .image))) (entry (a .tai-nanos) (a .tai-minus-utc))
+    → let a = c .before .before .before .before .before .args in let b = now (a .image) in
+    stored b (tableAnswerIn (c .try-extend .result)) ≡ imageExtended b (entry (a .tai-nanos) (a .tai-minus-utc))
 extends c =
     let start = c .before .before .before .before .before in
-    c .try-extend .ensures
-    ∙ (λ i. extended (c .before .table-in .ensures i) (entry (start .args .tai-nanos) (toZ-ofZ (start .fits .tai-minus-utc) i)))
+    let a = start .args in
+    let fits = toZ-ofZ (start .fits .tai-minus-utc) in
+    ap (stored (now (a .image)))
+    (c .try-extend .ensures ∙ (λ i. extended (c .before .table-in .ensures i) (entry (a .tai-nanos) (fits i))))
+    ∙ of-size (now (a .image)) _ _ (c .before .before .before .if1 .left)
 
 returns-2 : call.Tie.Need-returns-2
 returns-2 c =
-    let after = c .before .before .before in
-    let a = after .before .before .before .before .before .args in
-    let b = now (a .image) in
-    refusal-stored b _ _ (ap takenIn (c .before .answer .given .1)) (number-not-zero (c .before .answer .given .0 .0))
-    ∙ ap (stored b) (extends after) ∙ of-size b _ _ (search needs)
+    let told = c .before .answer .given in
+    refusal-stored _ _ _ (ap takenIn (told .1)) (number-not-zero (told .0 .0)) ∙ extends (c .before .before .before)
 
 returns-3 : call.Tie.Need-returns-3
 returns-3 c =
     let put = c .before .before in
     let told = put .before .before .before in
-    let after = told .before .before in
-    let a = after .before .before .before .before .before .args in
-    let b = now (a .image) in
-    ap (λ (l : List ℕ). (0, l)) (put .put-table .ensures)
-    ∙ table-stored b _ (ap takenIn (told .enum-told .given .1))
-    ∙ ap (stored b) (extends after) ∙ of-size b _ _ (search needs)
+    ap (λ (l : List ℕ). (0, l)) (put .put-table .ensures) ∙ table-stored _ _ (ap takenIn (told .enum-told .given .1))
+    ∙ extends (told .before .before)
 
 pub extend-spec : {M : Type 1} → call.Statement.statement M
 extend-spec =
