@@ -5,7 +5,7 @@ use Prim.Native.Nat.{ℕ, zero, suc, _+_, _*_, _≤_, _<_}
 use native.Mathlib.Nat.{mul-zero, mul-suc}
 use native.Mathlib.Numerals.{add-one}
 use native.Mathlib.Omega.{arith}
-use lib.ListN.{length, getD, take, drop, set, length-append}
+use lib.ListN.{length, getD, take, drop, set, length-append, length-set}
 use lib.Seq.{take-suc-set, set-comm, drop-cons, drop-drop, drop-length, sets, sets-eq}
 use Rattle.words.specs.Words.{numberIn, bytesOf}
 use Rattle.words.proofs.Bytes.{bytes-count}
@@ -22,19 +22,25 @@ field-more k stride (suc n) bs =
     (field-more k stride n (drop stride bs)
     ∙ ap (λ (l : List ℕ). numbersIn k stride n (drop stride bs) ++ (numberIn (take k l) ∷ [])) (drop-drop (stride * n) stride bs ∙ ap (λ (j : ℕ). drop j bs) further))
 
--- the first i slots hold the first i numbers, and the next number is put into the slot after them
-module _ {A : Type 0} (f : ℕ → A) (k stride start : ℕ) (b : List ℕ) where
-  pub none-kept : _≡_ {A = List A} [] (map f (numbersIn k stride 0 (drop start b)))
-  unfolding numbersIn
-  none-kept = refl
+-- the first i of 64 slots hold the first i numbers, and the next number is put into the slot after them
+pub record Kept {A : Type 0} (f : ℕ → A) (k stride start : ℕ) (b : List ℕ) (kept : List A) (i : ℕ) : Type 0 where
+  pub size : length kept ≡ 64
+  pub first : take i kept ≡ map f (numbersIn k stride i (drop start b))
 
-  pub field-kept : (kept : List A) (i : ℕ) (v : A) → i < length kept
-      → take i kept ≡ map f (numbersIn k stride i (drop start b))
-      → v ≡ f (numberIn (take k (drop (start + stride * i) b)))
-      → take (i + 1) (set kept i v) ≡ map f (numbersIn k stride (i + 1) (drop start b))
-  field-kept kept i v h e g =
+module _ {A : Type 0} {f : ℕ → A} {k stride start : ℕ} {b : List ℕ} {kept : List A} where
+  pub none-kept : length kept ≡ 64 → Kept f k stride start b kept 0
+  unfolding numbersIn
+  none-kept h = record { size = h; first = refl }
+
+  pub field-kept : {i : ℕ} {v : A} → Kept f k stride start b kept i → i < 64
+      → v ≡ f (numberIn (take k (drop (start + stride * i) b))) → Kept f k stride start b (set kept i v) (i + 1)
+  field-kept {i} {v} h l g =
+      let within : i < length kept = omega (arith, h .size) in
       let next = ap (λ (l : List ℕ). numberIn (take k l)) (drop-drop (stride * i) start b) in
-      rw (add-one, take-suc-set kept i v h, field-more k stride i (drop start b), map-append, e, g, next)
+      record {
+        size = simp length-set (h .size);
+        first = rw (add-one, take-suc-set kept i v within, field-more k stride i (drop start b), map-append, h .first, g, next);
+      }
 
 pub all-bytes-count : (k : ℕ) (ns : List ℕ) → length (bytesOfAll k ns) ≡ k * length ns
 unfolding bytesOfAll
