@@ -1,14 +1,15 @@
 -- Numbers of one width in bytes, read and written a number at a turn.
 use mathlib.Core.Path.{_≡_, refl, sym, ap, _∙_}
-use mathlib.Core.List.{List, [], _∷_, _++_, map, map-append, append-nil}
-use Prim.Native.Nat.{ℕ, zero, suc, _+_, _*_, _≤_, _<_}
+use mathlib.Core.List.{List, [], _∷_, _++_, map, map-append}
+use Prim.Native.Nat.{ℕ, zero, suc, _+_, _*_, _<_}
 use native.Mathlib.Nat.{mul-zero, mul-suc}
 use native.Mathlib.Numerals.{add-one}
 use native.Mathlib.Omega.{arith}
 use lib.ListN.{length, getD, take, drop, set, length-append, length-set}
-use lib.Seq.{take-suc-set, set-comm, drop-cons, drop-drop, drop-length, sets, sets-eq}
+use lib.Seq.{take-suc-set, drop-cons, drop-drop, drop-length, sets}
 use Rattle.words.specs.Words.{numberIn, bytesOf}
 use Rattle.words.proofs.Bytes.{bytes-count}
+use Rattle.words.proofs.Stores.{joined}
 use Rattle.images.specs.Image.{numbersIn, bytesOfAll}
 
 -- one number more at the end
@@ -48,42 +49,13 @@ all-bytes-count k [] = sym (mul-zero k)
 all-bytes-count k (n ∷ ns) =
     length-append (bytesOf k n) (bytesOfAll k ns) ∙ rw (bytes-count, all-bytes-count k ns, mul-suc) (omega arith)
 
--- two runs of stores, the second from where the first ends
-pub sets-sets : {A : Type 0} (l vs ws : List A) (i j : ℕ) → j ≡ i + length vs
-    → sets (sets l i vs) j ws ≡ sets l i (vs ++ ws)
-sets-sets {A} l [] ws i j e = let s : j ≡ i = omega arith in ap (λ (k : ℕ). sets l k ws) s
-sets-sets l (v ∷ vs) ws i j e = sets-sets (set l i v) vs ws (suc i) j (omega arith)
-
--- runs of stores that do not meet, in either order
-set-sets : {A : Type 0} (l ws : List A) (i j : ℕ) (v : A) → i < j → set (sets l j ws) i v ≡ sets (set l i v) j ws
-set-sets l [] i j v h = refl
-set-sets {A} l (w ∷ ws) i j v h =
-    set-sets (set l j w) ws i (suc j) v (omega arith)
-    ∙ ap (λ (x : List A). sets x (suc j) ws) (set-comm l j i w v (λ e. omega arith))
-
-pub sets-apart : {A : Type 0} (l vs ws : List A) (i j : ℕ) → i + length vs ≤ j
-    → sets (sets l j ws) i vs ≡ sets (sets l i vs) j ws
-sets-apart l [] ws i j h = refl
-sets-apart {A} l (v ∷ vs) ws i j h =
-    ap (λ (x : List A). sets x (suc i) vs) (set-sets l ws i j v (omega arith))
-    ∙ sets-apart (set l i v) vs ws (suc i) j (omega arith)
-
--- a run of stores over a whole list
-pub sets-all : (l vs : List ℕ) → length vs ≡ length l → sets l 0 vs ≡ vs
-sets-all l vs e =
-    sets-eq vs l 0 (omega arith) ∙ ap (λ (n : ℕ). vs ++ drop n l) whole ∙ ap (λ (r : List ℕ). vs ++ r) (drop-length l)
-    ∙ append-nil vs
-  where
-    whole : 0 + length vs ≡ length l
-    whole = omega arith
-
 -- what is left to be written, one number fewer
 pub field-written : (out ns : List ℕ) (k start i v : ℕ) → i < length ns → v ≡ getD ns i 0
-    → sets (sets out (start + k * i) (bytesOf k v)) (start + k * (i + 1)) (bytesOfAll k (drop (i + 1) ns)) ≡ sets out (start + k * i) (bytesOfAll k (drop i ns))
+    → sets (sets out (start + k * i) (bytesOf k v)) (start + k * (i + 1)) (bytesOfAll k (drop (i + 1) ns))
+    ≡ sets out (start + k * i) (bytesOfAll k (drop i ns))
 unfolding bytesOfAll
 field-written out ns k start i v h e =
-    let further : start + k * (i + 1) ≡ start + k * i + length (bytesOf k v) = rw (add-one, mul-suc, bytes-count) (omega arith) in
-    sets-sets out (bytesOf k v) (bytesOfAll k (drop (i + 1) ns)) (start + k * i) (start + k * (i + 1)) further
+    joined out _ _ (bytesOf k v) (bytesOfAll k (drop (i + 1) ns)) refl (rw (add-one, mul-suc, bytes-count) (omega arith)) refl
     ∙ rw (add-one, drop-cons ns i 0 h, e)
 
 pub all-fields-written : (out ns : List ℕ) (k at i : ℕ) → i ≡ length ns → sets out at (bytesOfAll k (drop i ns)) ≡ out

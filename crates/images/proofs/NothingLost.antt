@@ -16,7 +16,7 @@ use Rattle.words.proofs.Bytes.{bytes-count}
 use Rattle.words.proofs.Inverses.{Below, below-drop, number-of-bytes, bytes-of-part}
 use Rattle.images.specs.Image.{numbersIn, bytesOfAll, imageBytes, tableIn, imageOf}
 use Rattle.images.proofs.Inverses.{undone, numbers-of-bytes, bytes-of-numbers, numbers-below}
-use Rattle.images.proofs.Whole.{tableOfParts, threshold-bytes, image-count}
+use Rattle.images.proofs.Whole.{tableOfParts, front, middle, bits, back, before-back, image-count}
 
 -- a table whose arrays have 64 slots each and whose numbers fit their types
 pub record Typed (t : LeapTable) : Type 0 where
@@ -32,48 +32,27 @@ pub record NothingLost : Type 0 where
   pub size : (t : LeapTable) → Sized t → length (imageOf t) ≡ imageBytes
 
 module _ (t : LeapTable) (h : Typed t) where
-  abbrev front : List ℕ
-  front = bytesOf 8 (t .len)
+  parted : front t ++ middle t ++ back t ≡ front t ++ (middle t ++ back t)
+  parted = append-assoc (front t) (middle t) (back t)
 
-  abbrev middle : List ℕ
-  middle = bytesOfAll 8 (t .thresholds)
+  len-kept : numberIn (take 8 (front t ++ middle t ++ back t)) ≡ t .len
+  len-kept = rw (parted, take-at (front t) (middle t ++ back t) 8 (bytes-count 8 (t .len))) (number-of-bytes 8 (t .len) (h .len))
 
-  abbrev bits : List ℕ
-  bits = map (ofZ w32) (t .offsets)
-
-  abbrev back : List ℕ
-  back = bytesOfAll 4 bits
-
-  parted : front ++ middle ++ back ≡ front ++ (middle ++ back)
-  parted = append-assoc front middle back
-
-  len-kept : numberIn (take 8 (front ++ middle ++ back)) ≡ t .len
-  len-kept =
-      ap (λ (l : List ℕ). numberIn (take 8 l)) parted
-      ∙ ap numberIn (take-at front (middle ++ back) 8 (bytes-count 8 (t .len)))
-      ∙ number-of-bytes 8 (t .len) (h .len)
-
-  thresholds-kept : numbersIn 8 8 64 (drop 8 (front ++ middle ++ back)) ≡ t .thresholds
+  thresholds-kept : numbersIn 8 8 64 (drop 8 (front t ++ middle t ++ back t)) ≡ t .thresholds
   thresholds-kept =
-      ap (λ (l : List ℕ). numbersIn 8 8 64 (drop 8 l)) parted
-      ∙ ap (numbersIn 8 8 64) (drop-at front (middle ++ back) 8 (bytes-count 8 (t .len)))
-      ∙ ap (λ (n : ℕ). numbersIn 8 8 n (middle ++ back)) (sym (h .sized .thresholds))
-      ∙ numbers-of-bytes 8 (t .thresholds) back (h .thresholds)
+      rw (parted, drop-at (front t) (middle t ++ back t) 8 (bytes-count 8 (t .len)), ← h .sized .thresholds)
+      (numbers-of-bytes 8 (t .thresholds) (back t) (h .thresholds))
 
-  bits-fit : Below (2 ^ 32) bits
+  bits-fit : Below (2 ^ 32) (bits t)
   bits-fit i = rw (List·getD-map (ofZ w32) (t .offsets) i (pos 0)) (fits-ofZ {w = w32} (h .offsets i) .fits)
 
-  offsets-kept : map (toZ w32) (numbersIn 4 4 64 (drop 520 (front ++ middle ++ back))) ≡ t .offsets
+  offsets-kept : map (toZ w32) (numbersIn 4 4 64 (drop 520 (front t ++ middle t ++ back t))) ≡ t .offsets
   offsets-kept =
-      ap (λ (l : List ℕ). map (toZ w32) (numbersIn 4 4 64 l)) (drop-at (front ++ middle) back 520 before ∙ sym (append-nil back))
-      ∙ ap (λ (n : ℕ). map (toZ w32) (numbersIn 4 4 n (back ++ []))) (sym (length-map (t .offsets) (ofZ w32) ∙ h .sized .offsets))
-      ∙ ap (map (toZ w32)) (numbers-of-bytes 4 bits [] bits-fit)
-      ∙ undone (pos 0) (ofZ w32) (toZ w32) (t .offsets) (λ i. toZ-ofZ (h .offsets i))
-    where
-      before : length (front ++ middle) ≡ 520
-      before =
-          length-append front middle
-          ∙ omega (arith, bytes-count 8 (t .len), threshold-bytes t (h .sized .thresholds) (h .sized .offsets))
+      let count : length (bits t) ≡ 64 = length-map (t .offsets) (ofZ w32) ∙ h .sized .offsets in
+      let read : numbersIn 4 4 64 (back t) ≡ bits t
+      = rw (← append-nil (back t), ← count) (numbers-of-bytes 4 (bits t) [] bits-fit) in
+      rw (drop-at (front t ++ middle t) (back t) 520 (before-back (h .sized)), read)
+      (undone (pos 0) (ofZ w32) (toZ w32) (t .offsets) (λ i. toZ-ofZ (h .offsets i)))
 
   table-kept : tableIn (imageOf t) ≡ t
   unfolding tableIn imageOf
@@ -105,4 +84,4 @@ module _ (b : List ℕ) (h : Below 256 b) (l : length b ≡ 776) where
   image-kept = (λ i. bytes-of-part 8 b h (omega arith) i ++ thresholds-back i ++ offsets-back i) ∙ joined
 
 pub nothing-lost : NothingLost
-nothing-lost = record { table = table-kept; image = image-kept; size = λ t s. image-count t (s .thresholds) (s .offsets) }
+nothing-lost = record { table = table-kept; image = image-kept; size = λ t s. image-count s }

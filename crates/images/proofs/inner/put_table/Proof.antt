@@ -11,6 +11,7 @@ use lib.IntN.{pos}
 use mir.Syntax.{w32}
 use mir.Val.{SFits, ofZ}
 use mir.Facts.{toZ-ofZ}
+use Rattle.tables.proofs.Extensions.{Sized}
 use Rattle.words.specs.Words.{bytesOf}
 use Rattle.images.specs.Image.{imageOf}
 use Rattle.images.proofs.Whole.{writtenFrom, length-written, slot-written, all-slots-written}
@@ -22,16 +23,18 @@ Inv-loop image₀ table i₀ image i = (i ≤ 64) × (length image ≡ 776) × (
 abbrev μ-loop : call.Tie.MeasureT-loop
 μ-loop image₀ table i₀ image i = 64 - i
 
-sizes : (c : call.Tie.Start Inv-loop μ-loop)
-    → (length (c .args .t2 .thresholds) ≡ 64) × (length (c .args .t2 .offsets) ≡ 64)
-sizes c = (search needs, search needs)
+sizes : (c : call.Tie.Start Inv-loop μ-loop) → Sized (c .args .t2)
+sizes c = search needs
 
 loop-holds : call.Tie.Need-loop-holds Inv-loop μ-loop
 loop-holds c =
     let first = c .before .before in
-    let start = first .before .before .before in
-    let a = start .args in
-    (search needs, search needs, ap (writtenFrom (a .t2) 0) (first .put-number .ensures) ∙ length-written (a .t2) (sizes start .0) (sizes start .1) (now (a .image)) (search needs))
+    let start = first .before .before .before in (
+      search needs,
+      search needs,
+      ap (writtenFrom (start .args .t2) 0) (first .put-number .ensures)
+          ∙ length-written (sizes start) (now (start .args .image)) (search needs),
+    )
 
 loop-again : call.Tie.Need-loop-again Inv-loop μ-loop
 loop-again c =
@@ -40,20 +43,21 @@ loop-again c =
     let second = third .before .before .before .before .before .before in
     let at = second .before .before .before .before in
     let start = at .before .before .before .before .before .before in
-    let t = start .args .t2 in
     let s = at .loop in
-    let fits : SFits w32 (getD (t .offsets) (s .i) (pos 0)) = search needs in (
+    let fits : SFits w32 (getD (start .args .t2 .offsets) (s .i) (pos 0)) = search needs in
+    let written = third .put-number3 .ensures
+    ∙ ap (λ (l : List ℕ). sets l (520 + 4 * s .i) (bytesOf 4 (bits .result))) (second .put-number2 .ensures) in (
       search needs,
       search needs,
-      ap (writtenFrom t (s .i + 1)) (third .put-number3 .ensures ∙ ap (λ (l : List ℕ). sets l (520 + 4 * s .i) (bytesOf 4 (bits .result))) (second .put-number2 .ensures))
-          ∙ slot-written t (sizes start .0) (sizes start .1) (s .image) (s .i) (bits .result) (omega arith) (bits .ensures ∙ ap (ofZ w32) (toZ-ofZ fits)) ∙ s .inv .2,
+      ap (writtenFrom (start .args .t2) (s .i + 1)) written
+          ∙ slot-written (sizes start) (s .image) (s .i) (bits .result) (omega arith) (bits .ensures ∙ ap (ofZ w32) (toZ-ofZ fits))
+          ∙ s .inv .2,
     )
 
 returns : call.Tie.Need-returns Inv-loop μ-loop
 returns c =
     let s = c .before .loop in
-    let start = c .before .before .before .before .before .before .before in
-    sym (all-slots-written (start .args .t2) (sizes start .0) (sizes start .1) (s .image) (s .i) (omega arith))
+    sym (all-slots-written (sizes (c .before .before .before .before .before .before .before)) (s .image) (s .i) (omega arith))
     ∙ s .inv .2
 
 pub put-table-spec : {M : Type 1} → call.Statement.statement M
