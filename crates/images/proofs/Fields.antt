@@ -2,7 +2,7 @@
 use mathlib.Core.Path.{_≡_, refl, sym, ap, _∙_}
 use mathlib.Core.List.{List, [], _∷_, _++_, map, map-append}
 use Prim.Native.Nat.{ℕ, zero, suc, _+_, _*_, _<_}
-use native.Mathlib.Nat.{mul-zero, mul-suc}
+use native.Mathlib.Nat.{add-comm, mul-zero, mul-suc}
 use native.Mathlib.Numerals.{add-one}
 use native.Mathlib.Omega.{arith}
 use lib.ListN.{length, getD, take, drop, set, length-append, length-set}
@@ -12,16 +12,17 @@ use Rattle.words.proofs.Bytes.{bytes-count}
 use Rattle.words.proofs.Stores.{joined}
 use Rattle.images.specs.Image.{numbersIn, bytesOfAll}
 
+-- one stride and then n more
+pub strides : (stride n : ℕ) (bs : List ℕ) → drop (stride * n) (drop stride bs) ≡ drop (stride * suc n) bs
+strides stride n bs = rw (drop-drop (stride * n) stride bs, mul-suc, add-comm stride (stride * n))
+
 -- one number more at the end
 field-more : (k stride n : ℕ) (bs : List ℕ)
     → numbersIn k stride (suc n) bs ≡ numbersIn k stride n bs ++ (numberIn (take k (drop (stride * n) bs)) ∷ [])
 unfolding numbersIn
 field-more k stride zero bs = rw mul-zero
 field-more k stride (suc n) bs =
-    let further : stride + stride * n ≡ stride * suc n = sym (mul-suc stride n ∙ omega arith) in
-    ap (λ (l : List ℕ). numberIn (take k bs) ∷ l)
-    (field-more k stride n (drop stride bs)
-    ∙ ap (λ (l : List ℕ). numbersIn k stride n (drop stride bs) ++ (numberIn (take k l) ∷ [])) (drop-drop (stride * n) stride bs ∙ ap (λ (j : ℕ). drop j bs) further))
+    ap (λ (l : List ℕ). numberIn (take k bs) ∷ l) (rw (← strides stride n bs) (field-more k stride n (drop stride bs)))
 
 -- the first i of 64 slots hold the first i numbers, and the next number is put into the slot after them
 pub record Kept {A : Type 0} (f : ℕ → A) (k stride start : ℕ) (b : List ℕ) (kept : List A) (i : ℕ) : Type 0 where

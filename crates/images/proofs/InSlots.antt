@@ -2,7 +2,7 @@
 use mathlib.Core.Path.{_≡_, refl, sym, ap, _∙_}
 use mathlib.Core.List.{List}
 use Prim.Native.Nat.{ℕ, zero, suc, _+_, _*_, _<_}
-use native.Mathlib.Nat.{mul-zero, mul-suc}
+use native.Mathlib.Nat.{mul-zero}
 use native.Mathlib.Omega.{arith}
 use lib.ListN.{length, getD, take, drop, length-map, List·getD-map}
 use lib.Seq.{drop-drop}
@@ -11,6 +11,7 @@ use mir.Syntax.{w32}
 use mir.Val.{toZ}
 use Rattle.words.specs.Words.{numberIn}
 use Rattle.images.specs.Image.{numbersIn, tableIn}
+use Rattle.images.proofs.Fields.{strides}
 
 -- ---- numbers one after the other
 
@@ -25,10 +26,7 @@ module _ (k stride : ℕ) where
   unfolding numbersIn
   number-at zero i b h = absurd (omega arith)
   number-at (suc n) zero b h = rw mul-zero
-  number-at (suc n) (suc i) b h =
-      let further : stride + stride * i ≡ stride * suc i = sym (mul-suc stride i ∙ omega arith) in
-      number-at n i (drop stride b) (omega arith)
-      ∙ ap (λ (l : List ℕ). numberIn (take k l)) (drop-drop (stride * i) stride b ∙ ap (λ (j : ℕ). drop j b) further)
+  number-at (suc n) (suc i) b h = rw (← strides stride i b) (number-at n i (drop stride b) (omega arith))
 
 -- ---- the table
 
@@ -48,12 +46,11 @@ module _ (b : List ℕ) where
   module _ (i : ℕ) (h : i < 64) where
     pub threshold-is : numberIn (take 8 (drop (8 + 8 * i) b)) ≡ getD (tableIn b .thresholds) i 0
     unfolding tableIn
-    threshold-is =
-        sym (number-at 8 8 64 i (drop 8 b) h ∙ ap (λ (l : List ℕ). numberIn (take 8 l)) (drop-drop (8 * i) 8 b))
+    threshold-is = rw (number-at 8 8 64 i (drop 8 b) h, drop-drop (8 * i) 8 b)
 
     pub offset-is : toZ w32 (numberIn (take 4 (drop (520 + 4 * i) b))) ≡ getD (tableIn b .offsets) i (pos 0)
     unfolding tableIn
     offset-is =
         sym
         (List·getD-map (toZ w32) (numbersIn 4 4 64 (drop 520 b)) i 0
-        ∙ ap (toZ w32) (number-at 4 4 64 i (drop 520 b) h ∙ ap (λ (l : List ℕ). numberIn (take 4 l)) (drop-drop (4 * i) 520 b)))
+        ∙ rw (number-at 4 4 64 i (drop 520 b) h, drop-drop (4 * i) 520 b))
