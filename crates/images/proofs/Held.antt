@@ -2,12 +2,12 @@
 use mathlib.Core.Path.{_≡_, refl, sym, ap, _∙_}
 use mathlib.Core.Bool.{Bool, true, false, cond, _&&_}
 use mathlib.Core.List.{List}
-use Prim.Native.Nat.{ℕ, _<_}
+use Prim.Native.Nat.{ℕ, _≤_, _<_}
 use native.Mathlib.Omega.{arith}
-use borrow.Author.Tests.{eqb-true}
+use borrow.Author.Tests.{eqb-true, eq-eqb, le-leb}
 use lib.ListN.{length}
 use Rattle.refusals.specs.Outcome.{Outcome, answered, refused, then, changed}
-use Rattle.tables.specs.Entries.{Entry}
+use Rattle.tables.specs.Entries.{Entry, valid}
 use Rattle.tables.specs.Slots.{entriesOf, validTable}
 use Rattle.tables.proofs.Checked.{Checked, checked, eight-first, eight-changed}
 use Rattle.tables.proofs.Neighbours.{both}
@@ -17,6 +17,10 @@ use Rattle.images.proofs.InSlots.{thresholds-count, offsets-count}
 module _ (b : List ℕ) where
   abbrev pub holds : Bool
   holds = sized b && validTable (tableIn b)
+
+  -- of bytes of that size, with at most 64 slots, it is the test of the entries
+  pub by-entries : length b ≡ 776 → tableIn b .len ≤ 64 → valid (entriesOf (tableIn b)) ≡ holds
+  by-entries s f = rw (eq-eqb (length b) 776 s, le-leb (tableIn b .len) 64 f)
 
   pub record Held : Type 0 where
     pub passes : holds ≡ true
