@@ -1,7 +1,7 @@
 -- Bytes in the form: their fields fit, and the form is written and read back as it was.
 use mathlib.Core.Path.{_≡_, refl, _∙_}
-use mathlib.Core.Bool.{true, false}
-use mathlib.Core.List.{List, [], _∷_}
+use mathlib.Core.Bool.{true, false, false≢true}
+use mathlib.Core.List.{List, [], _∷_, _++_}
 use Prim.Native.Nat.{ℕ, zero, suc, _^_, _<_}
 use native.Mathlib.Nat.{zero-add}
 use lib.Dec.{lit<}
@@ -15,17 +15,17 @@ use Rattle.stamps.proofs.Between.{as-long, rest-within, start-within}
 -- digits lie between zeros and nines
 digits-between : (k : ℕ) (s : List ℕ) → within (replicate k 48) (replicate k 57) s ≡ true → allDigits s ≡ true
 digits-between zero [] e = refl
-digits-between zero (b ∷ s) e = cc
-digits-between (suc k) [] e = cc
+digits-between zero (b ∷ s) e = absurd (false≢true e)
+digits-between (suc k) [] e = absurd (false≢true e)
 digits-between (suc k) (b ∷ s) e =
-    let rest = digits-between k s (second-half (isDigit b) (within (replicate k 48) (replicate k 57) s) e) in
-    rw (first-half (isDigit b) (within (replicate k 48) (replicate k 57) s) e) rest
+    let rest = within (replicate k 48) (replicate k 57) s in
+    rw (first-half (isDigit b) rest e) (digits-between k s (second-half (isDigit b) rest e))
 
-pub between-digits : (s : List ℕ) → allDigits s ≡ true
-    → within (replicate (length s) 48) (replicate (length s) 57) s ≡ true
-between-digits [] e = refl
-between-digits (b ∷ s) e =
-    rw (first-half (isDigit b) (allDigits s) e) (between-digits s (second-half (isDigit b) (allDigits s) e))
+pub digits-before : (s l h t : List ℕ) → allDigits s ≡ true → within l h t ≡ true
+    → within (replicate (length s) 48 ++ l) (replicate (length s) 57 ++ h) (s ++ t) ≡ true
+digits-before [] l h t e f = f
+digits-before (b ∷ s) l h t e f =
+    rw (first-half (isDigit b) (allDigits s) e) (digits-before s l h t (second-half (isDigit b) (allDigits s) e) f)
 
 -- a field of k digits at a place, with the mark after it
 module _ (s : List ℕ) (formed : within first last s ≡ true) where

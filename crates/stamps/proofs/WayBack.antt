@@ -1,13 +1,13 @@
 -- The form there and back: what is written is read as it was, and what is read is written as it was.
 use mathlib.Core.Path.{_≡_, refl, sym, ap, _∙_}
-use mathlib.Core.Bool.{true, _&&_}
+use mathlib.Core.Bool.{true, _&&_, false≢true}
 use mathlib.Core.List.{List, [], _∷_, _++_, append-assoc}
 use Prim.Native.Nat.{ℕ, _+_, _≤_}
 use native.Mathlib.Omega.{arith}
 use borrow.Author.Tests.{le-leb, leb-true}
 use lib.Dec.{leb}
 use lib.IntN.{pos, natAbs}
-use lib.ListN.{take, drop, replicate, length-replicate, take-append-drop, drop-of-length-le}
+use lib.ListN.{take, drop, replicate, take-append-drop, drop-of-length-le}
 use lib.Seq.{drop-drop}
 use Rattle.refusals.specs.Outcome.{answered}
 use Rattle.civil.specs.Fields.{fields}
@@ -16,16 +16,16 @@ use Rattle.words.specs.Decimal.{valueOf, inDigits}
 use Rattle.words.proofs.Writing.{digits-length}
 use Rattle.words.proofs.WayBack.{first-half, second-half, value-of-digits, digits-are-digits}
 use Rattle.stamps.specs.Form.{Fits, field, fieldsAt, first, last, stampRead, within, written}
-use Rattle.stamps.proofs.Between.{rest-within, join}
-use Rattle.stamps.proofs.Fields.{between-digits, long, same-digits, read-as}
+use Rattle.stamps.proofs.Between.{rest-within}
+use Rattle.stamps.proofs.Fields.{digits-before, long, same-digits, read-as}
 
 -- a number in k digits and a mark, before bytes that are within
 before : (k n mark : ℕ) (l h s : List ℕ) → within l h s ≡ true
     → within (replicate k 48 ++ (mark ∷ l)) (replicate k 57 ++ (mark ∷ h)) (inDigits k n ++ (mark ∷ s)) ≡ true
 before k n mark l h s e =
     let here : leb mark mark ≡ true = le-leb mark mark (omega arith) in
-    let digits = rw digits-length at (between-digits (inDigits k n) (digits-are-digits k n)) in
-    join (replicate k 48) (replicate k 57) (inDigits k n) (mark ∷ l) (mark ∷ h) (mark ∷ s) (simp length-replicate) digits (rw here e)
+    rw digits-length at
+    (digits-before (inDigits k n) (mark ∷ l) (mark ∷ h) (mark ∷ s) (digits-are-digits k n) (rw here e))
 
 module _ (f : CivilDateTime) where
   -- what is written of any fields is in the form
@@ -56,7 +56,7 @@ module _ (f : CivilDateTime) where
 
 -- a mark is the one byte from itself up to itself
 the-mark : (mark : ℕ) (l h s : List ℕ) → within (mark ∷ l) (mark ∷ h) s ≡ true → s ≡ mark ∷ drop 1 s
-the-mark mark l h [] e = cc
+the-mark mark l h [] e = absurd (false≢true e)
 the-mark mark l h (b ∷ s) e =
     let both = first-half (leb mark b && leb b mark) (within l h s) e in
     let up : mark ≤ b = leb-true mark b (first-half (leb mark b) (leb b mark) both) in

@@ -1,5 +1,4 @@
--- `each_within`. The invariant: all bytes are within where those before `i` are, and those from `i`
--- on.
+-- `each_within`. The invariant: all bytes are within where those before `i` are, and those from `i` on.
 use mathlib.Core.Path.{_≡_, refl, sym, ap, _∙_}
 use mathlib.Core.Bool.{Bool, _&&_, and-true, and-assoc}
 use Prim.Native.Nat.{_+_, _-_, _≤_}
@@ -18,17 +17,15 @@ Inv-loop low high s inside₀ i₀ inside i =
 abbrev μ-loop : call.Tie.MeasureT-loop
 μ-loop low high s inside₀ i₀ inside i = length s - i
 
-loop-holds : call.Tie.Need-loop-holds Inv-loop μ-loop
-loop-holds c = (refl, omega arith)
-
 loop-again : call.Tie.Need-loop-again Inv-loop μ-loop
 loop-again c =
     let at = c .before .before .before .before .before in
     let a = at .before .before .before .before .args in
-    let rest = within (drop (at .loop .i + 1) (now (a .low))) (drop (at .loop .i + 1) (now (a .high))) (drop (at .loop .i + 1) (now (a .s))) in (
+    let i = at .loop .i in
+    let rest = within (drop (i + 1) (now (a .low))) (drop (i + 1) (now (a .high))) (drop (i + 1) (now (a .s))) in
+    let turn = opened (now (a .low)) (now (a .high)) (now (a .s)) i (omega arith) (omega arith) (omega arith) in (
       at .loop .inv .0
-          ∙ ap (λ (t : Bool). at .loop .inside && t)
-          (opened (now (a .low)) (now (a .high)) (now (a .s)) (at .loop .i) (omega arith) (omega arith) (omega arith) ∙ ap (λ (t : Bool). t && rest) (sym (c .between .ensures)))
+          ∙ ap (λ (t : Bool). at .loop .inside && t) (turn ∙ ap (λ (t : Bool). t && rest) (sym (c .between .ensures)))
           ∙ sym (and-assoc (at .loop .inside) (c .between .result) rest),
       omega arith,
     )
@@ -38,27 +35,13 @@ returns c =
     let at = c .before in
     let a = at .before .before .before .before .args in
     let i = at .loop .i in
-    sym
-    (at .loop .inv .0
-    ∙ rw (
-      drop-of-length-le (now (a .low)) {i =
-          i} (omega arith),
-      drop-of-length-le (now (a .s)) {i = i} (omega arith),
-      and-true (at .loop .inside),
-    ))
+    let no-low = drop-of-length-le (now (a .low)) {i = i} (omega arith) in
+    let no-s = drop-of-length-le (now (a .s)) {i = i} (omega arith) in
+    sym (at .loop .inv .0 ∙ rw (no-low, no-s, and-true (at .loop .inside)))
 
+-- loop-holds, reads of low, s and high, between-requires, add-i, loop-less, loop-again, returns
 pub each-within-spec : {M : Type 1} → call.Statement.statement M
 each-within-spec =
     call.Tie.close
-    (call.Tie.spec
-    Inv-loop
-    μ-loop
-    loop-holds
-    (λ c. search needs)
-    (λ c. search needs)
-    (λ c. search needs)
-    (λ c κs. search needs)
-    (λ c. search needs)
-    (λ c. search needs)
-    loop-again
-    returns)
+    (call.Tie.spec Inv-loop μ-loop (λ c. (refl, omega arith)) (λ c. search needs) (λ c. search needs)
+    (λ c. search needs) (λ c κs. search needs) (λ c. search needs) (λ c. search needs) loop-again returns)

@@ -23,43 +23,25 @@ returns c =
 returns-2 : call.Tie.Need-returns-2
 returns-2 c =
     let first = c .before .before .before .before in
-    let start = first .before .before .before .before .before .before .before .before .before in
-    let a = start .args in
-    let parts : within (take 16 (drop 14 (now (a .low)))) (take 16 (drop 14 (now (a .high)))) (take 16 (drop 14 (now (a .s)))) ≡ within (drop 14 (now (a .low))) (drop 14 (now (a .high))) (drop 14 (now (a .s)))
-    = rw (all-16 (now (a .low)) (omega arith), all-16 (now (a .high)) (omega arith), all-16 (now (a .s)) (omega arith)) in
-    c .each-within2 .ensures ∙ parts
-    ∙ at-end (now (a .low)) (now (a .high)) (now (a .s)) (start .pre .0) (start .pre .1) (omega arith) (sym (first .before .each-within .ensures) ∙ first .if2 .taken)
+    let a = first .before .before .before .before .before .before .before .before .before .args in
+    let low = now (a .low) in
+    let high = now (a .high) in
+    let s = now (a .s) in
+    c .each-within2 .ensures
+    ∙ rw (all-16 low (omega arith), all-16 high (omega arith), all-16 s (omega arith))
+    (at-end low high s (sym (first .before .each-within .ensures) ∙ first .if2 .taken))
 
 returns-3 : call.Tie.Need-returns-3
 returns-3 c =
-    let start = c .before .before .before .before .before .before .before .before .before in
-    let a = start .args in
-    sym (not-at-start (now (a .low)) (now (a .high)) (now (a .s)) (start .pre .0) (start .pre .1) (sym (c .before .each-within .ensures) ∙ c .if2 .left))
+    let a = c .before .before .before .before .before .before .before .before .before .args in
+    sym (not-at-start (now (a .low)) (now (a .high)) (now (a .s)) (sym (c .before .each-within .ensures) ∙ c .if2 .left))
 
+-- returns, nine needs of three parts and each-within-requires, the same of the last sixteen, returns-2, returns-3
 pub within-spec : {M : Type 1} → call.Statement.statement M
 within-spec =
     call.Tie.close
-    (call.Tie.spec
-    returns
-    (λ c. search needs)
-    (λ c. search needs)
-    (λ c. search needs)
-    (λ c. search needs)
-    (λ c. search needs)
-    (λ c. search needs)
-    (λ c. search needs)
-    (λ c. search needs)
-    (λ c. search needs)
-    (λ c κs. search needs)
-    (λ c. search needs)
-    (λ c. search needs)
-    (λ c. search needs)
-    (λ c. search needs)
-    (λ c. search needs)
-    (λ c. search needs)
-    (λ c. search needs)
-    (λ c. search needs)
-    (λ c. search needs)
-    (λ c κs. search needs)
-    returns-2
-    returns-3)
+    (call.Tie.spec returns (λ c. search needs) (λ c. search needs) (λ c. search needs) (λ c. search needs)
+    (λ c. search needs) (λ c. search needs) (λ c. search needs) (λ c. search needs) (λ c. search needs)
+    (λ c κs. search needs) (λ c. search needs) (λ c. search needs) (λ c. search needs) (λ c. search needs)
+    (λ c. search needs) (λ c. search needs) (λ c. search needs) (λ c. search needs) (λ c. search needs)
+    (λ c κs. search needs) returns-2 returns-3)
