@@ -42,13 +42,9 @@ module _ (f : CivilDateTime) where
   fields-back : Fits f → fieldsAt (written f) ≡ f
   fields-back h =
       let year = ap pos (value-of-digits 4 (natAbs (f .year)) (h .year)) ∙ sym (h .natural) in
-      let month = value-of-digits 2 (f .month) (h .month) in
-      let day = value-of-digits 2 (f .day) (h .day) in
-      let hour = value-of-digits 2 (f .hour) (h .hour) in
-      let minute = value-of-digits 2 (f .minute) (h .minute) in
-      let second = value-of-digits 2 (f .second) (h .second) in
-      let nanos = value-of-digits 9 (f .nanos) (h .nanos) in
-      λ i. fields (year i) (month i) (day i) (hour i) (minute i) (second i) (nanos i)
+      λ i. fields (year i) (value-of-digits 2 (f .month) (h .month) i) (value-of-digits 2 (f .day) (h .day) i)
+      (value-of-digits 2 (f .hour) (h .hour) i) (value-of-digits 2 (f .minute) (h .minute) i)
+      (value-of-digits 2 (f .second) (h .second) i) (value-of-digits 9 (f .nanos) (h .nanos) i)
 
   -- reading what was written gives the fields
   pub written-reads : Fits f → stampRead (written f) ≡ answered f

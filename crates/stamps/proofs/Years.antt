@@ -60,14 +60,15 @@ module _ (n : ℕ) (count : n < 2 ^ 64) where
   abbrev date : Date
   date = dateIn (fieldsOf n)
 
-  pub year-is : date .year ≡ pos (natAbs (date .year))
+  year-is : date .year ≡ pos (natAbs (date .year))
   year-is =
       by-years (natural (date .year)) (λ e. subst (λ (y : ℤ). y ≡ pos (natAbs y)) e refl)
       (subst (λ (d : Date). Before d date) first-day (later-dates 0 day (omega arith)))
 
   four-digits : natAbs (date .year) < 10 ^ 4
   four-digits =
-      by-years (λ t. omega (arith, ltb→lt (natAbs (date .year)) 9999 (subst (λ (y : ℤ). T (ltZ y (pos 9999))) year-is t)))
+      by-years
+      (λ t. omega (arith, ltb→lt (natAbs (date .year)) 9999 (subst (λ (y : ℤ). T (ltZ y (pos 9999))) year-is t)))
       (λ e. omega (arith, ap natAbs e))
       (subst (λ (d : Date). Before date d) last-day (later-dates day 2932896 (omega arith)))
 
@@ -75,7 +76,8 @@ module _ (n : ℕ) (count : n < 2 ^ 64) where
   fits-form =
       let r = real-date (pos day) in
       let l = leap (date .year) in
-      let most = leb→le (daysIn l (date .month)) 31 (at (short l) 13 (tested-short l) (date .month) (omega (arith, r .month-to))) in
+      let tested = at (short l) 13 (tested-short l) (date .month) (omega (arith, r .month-to)) in
+      let most = leb→le (daysIn l (date .month)) 31 tested in
       record {
         natural = year-is;
         year = four-digits;

@@ -1,17 +1,17 @@
 -- `put`: seven fields, each from where the one before ends.
 use mathlib.Core.Path.{_≡_, refl, sym, ap, subst, _∙_}
-use mathlib.Core.List.{_++_}
 use Prim.Native.Nat.{_+_, _<_, _^_}
 use native.Mathlib.Omega.{arith}
 use borrow.Author.Needs.{needs}
 use denote.Ref.{now}
 use lib.IntN.{ℤ, pos, natAbs}
+use lib.ListN.{take}
 use lib.Seq.{sets}
 use mir.Facts.{toZ-ofZ}
 use mir.Syntax.{w32}
 use mir.Val.{SFits, toZ, ofZ}
 use Rattle.words.proofs.Stores.{joined}
-use Rattle.stamps.specs.Form.{field}
+use Rattle.stamps.specs.Form.{field, written}
 use Rattle.stamps.proofs.inner.put as call
 
 -- the year as the machine has it
@@ -38,36 +38,22 @@ returns c =
     let a = p1 .before .before .before .before .args in
     let out = now (a .out) in
     let at = a .at in
-    let date₁ = field 4 (natAbs (a .f .year)) 45 in
-    let date₂ = date₁ ++ field 2 (a .f .month) 45 in
-    let date₃ = date₂ ++ field 2 (a .f .day) 84 in
-    let time₁ = date₃ ++ field 2 (a .f .hour) 58 in
-    let time₂ = time₁ ++ field 2 (a .f .minute) 58 in
-    let time₃ = time₂ ++ field 2 (a .f .second) 46 in
-    let year = p1 .put-year-and .ensures ∙ ap (λ (z : ℤ). sets out at (field 4 (natAbs z) 45)) (read (p1 .before .before .before .before)) in
-    let after-month = joined out at (at + 5) date₁ (field 2 (a .f .month) 45) year refl (p2 .put-two-and .ensures) in
-    let after-day = joined out at (at + 8) date₂ (field 2 (a .f .day) 84) after-month refl (p3 .put-two-and2 .ensures) in
-    let after-hour = joined out at (at + 11) date₃ (field 2 (a .f .hour) 58) after-day refl (p4 .put-two-and3 .ensures) in
-    let after-minute = joined out at (at + 14) time₁ (field 2 (a .f .minute) 58) after-hour refl (p5 .put-two-and4 .ensures) in
-    let after-second = joined out at (at + 17) time₂ (field 2 (a .f .second) 46) after-minute refl (p6 .put-two-and5 .ensures) in
-    joined out at (at + 20) time₃ (field 9 (a .f .nanos) 90) after-second refl (p7 .put-nine-and .ensures)
+    let f = a .f in
+    let all = written f in
+    let machine = ap (λ (z : ℤ). sets out at (field 4 (natAbs z) 45)) (read (p1 .before .before .before .before)) in
+    let year = p1 .put-year-and .ensures ∙ machine in
+    let month = joined out at (at + 5) (take 5 all) (field 2 (f .month) 45) year refl (p2 .put-two-and .ensures) in
+    let day = joined out at (at + 8) (take 8 all) (field 2 (f .day) 84) month refl (p3 .put-two-and2 .ensures) in
+    let hour = joined out at (at + 11) (take 11 all) (field 2 (f .hour) 58) day refl (p4 .put-two-and3 .ensures) in
+    let minute = joined out at (at + 14) (take 14 all) (field 2 (f .minute) 58) hour refl (p5 .put-two-and4 .ensures) in
+    let second = joined out at (at + 17) (take 17 all) (field 2 (f .second) 46) minute refl
+    (p6 .put-two-and5 .ensures) in
+    joined out at (at + 20) (take 20 all) (field 9 (f .nanos) 90) second refl (p7 .put-nine-and .ensures)
 
+-- put-year-and-requires, then of each further field add-put and put-requires, same-length, returns
 pub put-spec : {M : Type 1} → call.Statement.statement M
 put-spec =
     call.Tie.close
-    (call.Tie.spec
-    put-year-and-requires
-    (λ c. search needs)
-    (λ c κs. search needs)
-    (λ c. search needs)
-    (λ c κs. search needs)
-    (λ c. search needs)
-    (λ c κs. search needs)
-    (λ c. search needs)
-    (λ c κs. search needs)
-    (λ c. search needs)
-    (λ c κs. search needs)
-    (λ c. search needs)
-    (λ c κs. search needs)
-    (λ c. search needs)
-    returns)
+    (call.Tie.spec put-year-and-requires (λ c. search needs) (λ c κs. search needs) (λ c. search needs)
+    (λ c κs. search needs) (λ c. search needs) (λ c κs. search needs) (λ c. search needs) (λ c κs. search needs)
+    (λ c. search needs) (λ c κs. search needs) (λ c. search needs) (λ c κs. search needs) (λ c. search needs) returns)

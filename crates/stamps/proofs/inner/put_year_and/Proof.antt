@@ -1,20 +1,18 @@
 -- The year is not negative, so the cast keeps its four digits; the mark follows them.
 use mathlib.Core.Path.{_≡_, sym, ap, subst, _∙_}
-use mathlib.Core.List.{List, [], _∷_}
-use Prim.Native.Nat.{ℕ, _+_, _<_, _^_}
+use Prim.Native.Nat.{_<_, _^_}
 use native.Mathlib.Omega.{arith}
 use borrow.Author.Needs.{needs}
 use denote.Ref.{now}
 use lib.Dec.{T}
 use lib.IntN.{ℤ, pos, natAbs}
-use lib.ListN.{set}
 use lib.Seq.{sets}
 use lib.Signed.{nonNeg}
 use mir.Facts.{toZ-ofZ}
 use mir.Syntax.{w32}
 use mir.Val.{Fits, toZ, ofZ}
 use Rattle.words.specs.Decimal.{inDigits}
-use Rattle.words.proofs.Stores.{sets-sets}
+use Rattle.stamps.proofs.Fields.{marked}
 use Rattle.stamps.proofs.inner.put_year_and as call
 
 -- the year as the machine has it
@@ -24,13 +22,8 @@ read s = toZ-ofZ (s .fits .year) ∙ s .pre .0
 cast-put-four : call.Tie.Need-cast-put-four
 cast-put-four c =
     let s = c .before .before in
-    subst (λ (z : ℤ). T (nonNeg z) × Fits w32 (natAbs z)) (sym (read s)) (
-      tt,
-      record {
-        fits =
-            omega (arith, s .pre .1 .0);
-      },
-    )
+    let few : Fits w32 (natAbs (s .args .year)) = record { fits = omega (arith, s .pre .1 .0) } in
+    subst (λ (z : ℤ). T (nonNeg z) × Fits w32 (natAbs z)) (sym (read s)) (tt, few)
 
 put-four-requires : call.Tie.Need-put-four-requires
 put-four-requires c κs =
@@ -40,10 +33,13 @@ put-four-requires c κs =
 returns : call.Tie.Need-returns
 returns c =
     let put = c .before .before in
-    let a = put .before .before .before .args in
-    ap (λ (l : List ℕ). set l (a .at + 4) (a .mark)) (put .put-four .ensures ∙ ap (λ (z : ℤ). sets (now (a .out)) (a .at) (inDigits 4 (natAbs z))) (read (put .before .before .before)))
-    ∙ sets-sets (inDigits 4 (natAbs (a .year))) (a .mark ∷ []) (now (a .out)) (a .at)
+    let start = put .before .before .before in
+    let a = start .args in
+    let digits = ap (λ (z : ℤ). sets (now (a .out)) (a .at) (inDigits 4 (natAbs z))) (read start) in
+    marked (now (a .out)) (a .at) 4 (natAbs (a .year)) (a .mark) (put .put-four .ensures ∙ digits)
 
+-- cast-put-four, put-four-requires, add-out, slice-write-out, same-length, returns
 pub put-year-and-spec : {M : Type 1} → call.Statement.statement M
 put-year-and-spec =
-    call.Tie.close (call.Tie.spec cast-put-four put-four-requires (λ c. search needs) (λ c. search needs) (λ c. search needs) returns)
+    call.Tie.close
+    (call.Tie.spec cast-put-four put-four-requires (λ c. search needs) (λ c. search needs) (λ c. search needs) returns)

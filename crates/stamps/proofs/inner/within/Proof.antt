@@ -34,7 +34,8 @@ returns-2 c =
 returns-3 : call.Tie.Need-returns-3
 returns-3 c =
     let a = c .before .before .before .before .before .before .before .before .before .args in
-    sym (not-at-start (now (a .low)) (now (a .high)) (now (a .s)) (sym (c .before .each-within .ensures) ∙ c .if2 .left))
+    let start = sym (c .before .each-within .ensures) ∙ c .if2 .left in
+    sym (not-at-start (now (a .low)) (now (a .high)) (now (a .s)) start)
 
 -- returns, nine needs of three parts and each-within-requires, the same of the last sixteen, returns-2, returns-3
 pub within-spec : {M : Type 1} → call.Statement.statement M
