@@ -1,5 +1,5 @@
 -- What gpscivil writes for a whole input is the answers to its lines, wherever it is cut.
-use mathlib.Core.Path.{_≡_, ap}
+use mathlib.Core.Path.{_≡_}
 use mathlib.Core.Bool.{and-false}
 use mathlib.Core.List.{List}
 use Prim.Native.Nat.{ℕ, _≤_, _<_}
@@ -7,9 +7,8 @@ use native.Mathlib.Omega.{arith}
 use borrow.Author.Tests.{lt-leb}
 use lib.Dec.{ltb}
 use lib.ListN.{length}
-use Rattle.refusals.specs.Outcome.{Outcome, refused, changed}
-use Rattle.lines.specs.OutcomeLine.{lineOf}
-use Rattle.lines.proofs.OutcomeLines.{line-short}
+use Rattle.refusals.specs.Outcome.{refused}
+use Rattle.lines.proofs.OutcomeLines as outcome
 use Rattle.lines.proofs.WholeInput as law
 use Rattle.gpscivil.specs.Answer.{utcOfLine, civilOf, answerTo}
 
@@ -29,10 +28,7 @@ unfolding civilOf
 form-short utc = omega arith
 
 pub answers-lines : law.AnswersLines 31 answerTo
-answers-lines = record {
-  short = λ l. line-short civilOf form-short (utcOfLine l);
-  first-128 = law.alike (λ l h. ap (λ (o : Outcome ℕ). lineOf (changed civilOf o)) (too-long l h));
-}
+answers-lines = outcome.answers-lines civilOf form-short utcOfLine too-long
 
 pub cut-anywhere : GpscivilCutAnywhere
 cut-anywhere = law.cut-anywhere answerTo answers-lines

@@ -3,17 +3,16 @@
 use mathlib.Core.Path.{_≡_, refl, sym, ap, _∙_}
 use mathlib.Core.List.{List, [], _++_, append-nil, append-assoc}
 use Prim.Native.Nat.{ℕ, min, _+_, _-_, _≤_, _<_}
-use native.Mathlib.Decide.{decLe}
 use native.Mathlib.Nat.{zero-add}
 use native.Mathlib.Omega.{arith}
 use borrow.Author.Tests.{le-ltb}
 use borrow.Rule.Slice.PartMut.{midOf, putMid}
-use lib.ListN.{length, take, drop, length-append, length-drop, drop-of-length-le}
+use lib.ListN.{length, take, drop, length-append, length-drop, length-take, drop-of-length-le}
 use lib.Seq.{sets, sets-eq, length-sets, drop-drop, length-take-le, take-all, take-at, take-take, take-append-add}
 use Rattle.words.proofs.Stores.{joined}
 use Rattle.lines.specs.OutcomeLine.{Puts, PutsWithRoom}
 use Rattle.lines.specs.Pieces.{begunAfter, written, untilEnd, Answers, AnswersBlock, lineUpTo, Keeps}
-use Rattle.lines.proofs.LineEnds.{until-most}
+use Rattle.lines.proofs.LineEnds.{ends-at}
 use Rattle.lines.proofs.Cutting.{up-to-end, past-end}
 use Rattle.lines.proofs.WholeInput.{AnswersLines}
 
@@ -21,23 +20,23 @@ use Rattle.lines.proofs.WholeInput.{AnswersLines}
 pub kept : (l line′ : List ℕ) (used′ : ℕ) → Keeps l line′ used′ → take 128 (take used′ line′) ≡ take 128 l
 kept l line′ used′ keeps = ap (take 128) (keeps .0) ∙ take-take 128 128 l (omega arith)
 
--- bytes stored after those that are held, as many as there is room for
-pub stored : (line : List ℕ) (used : ℕ) (s : List ℕ) → length line ≡ 128 → used ≤ 128
-    → take (used + min (length s) (128 - used)) (sets line used (take (min (length s) (128 - used)) s)) ≡ take 128 (take used line ++ s)
-stored line used s long most =
-    let n = min (length s) (128 - used) in
+-- of n bytes as many as there is room for are stored after those that are held
+pub stored : (line : List ℕ) (used : ℕ) (s : List ℕ) (n k : ℕ) → length line ≡ 128 → used ≤ 128 → n ≤ length s
+    → k ≡ min n (128 - used) → take (used + k) (sets line used (take k s)) ≡ take 128 (take used line ++ take n s)
+stored line used s n k long most inside is =
     let c = take used line in
+    let m = 128 - used in
     let held : length c ≡ used = length-take-le used line (omega arith) in
-    let many : length (take n s) ≡ n = length-take-le n s (omega arith) in
-    let all : length c + (128 - used) ≡ 128 = omega arith in
-    ap (take (used + n)) (sets-eq (take n s) line used (omega arith))
-    ∙ take-at (c ++ take n s) (drop (used + length (take n s)) line) (used + n) (omega (arith, length-append c (take n s)))
-    ∙ ap (λ (l : List ℕ). c ++ l) (by-room (decLe (length s) (128 - used))) ∙ sym (take-append-add c s (128 - used))
-    ∙ ap (λ (m : ℕ). take m (c ++ s)) all
-  where
-    by-room : Dec (length s ≤ 128 - used) → take (min (length s) (128 - used)) s ≡ take (128 - used) s
-    by-room (yes h) = take-all (min (length s) (128 - used)) s (omega (arith, h)) ∙ sym (take-all (128 - used) s h)
-    by-room (no h) = let full : min (length s) (128 - used) ≡ 128 - used = omega (arith, h) in ap (λ (m : ℕ). take m s) full
+    let many : length (take k s) ≡ k = length-take-le k s (omega arith) in
+    let room : length c + m ≡ 128 = omega arith in
+    let most : length (take m (take n s)) ≤ k = omega (arith, length-take m (take n s), length-take-le n s inside) in
+    let same : take k s ≡ take m (take n s)
+    = sym (take-take k n s (omega arith)) ∙ sym (take-take k m (take n s) (omega arith))
+    ∙ take-all k (take m (take n s)) most in
+    ap (take (used + k)) (sets-eq (take k s) line used (omega arith))
+    ∙ take-at (c ++ take k s) _ (used + k) (omega (arith, length-append c (take k s)))
+    ∙ ap (λ (l : List ℕ). c ++ l) same ∙ sym (take-append-add c (take n s) m)
+    ∙ ap (λ (j : ℕ). take j (c ++ take n s)) room
 
 -- a text written at the start of the part from a place on is written at that place
 in-part : (out text : List ℕ) (at : ℕ) → at + length text ≤ length out
@@ -60,21 +59,23 @@ module _ (longest : ℕ) (f : List ℕ → List ℕ) (are : AnswersLines longest
     pub line-long : length line ≡ 128
     pub out-long : length out ≡ length out₀
 
-  -- the first line begins with the block
-  pub starts : (line : List ℕ) (used end : ℕ) → length line ≡ 128 → used ≤ 128 → c ≡ take used line
-      → end ≡ 0 + untilEnd block → AtLine line out₀ used 0 0 end
-  starts line used end long most is found = record {
-    before = record { held = most; begins = sym is; writes = (refl, refl) };
-    found = found;
-    inside = omega arith;
-    room = omega arith;
-    line-long = long;
-    out-long = refl;
-  }
+-- the first line begins with the block
+pub starts : {longest : ℕ} {f : List ℕ → List ℕ} {are : AnswersLines longest f} {block out₀ line : List ℕ}
+    {used end : ℕ} → length line ≡ 128 → used ≤ 128 → end ≡ 0 + untilEnd block
+    → AtLine longest f are (take used line) block out₀ line out₀ used 0 0 end
+starts long most found = record {
+  before = record { held = most; begins = refl; writes = (refl, refl) };
+  found = found;
+  inside = omega arith;
+  room = omega arith;
+  line-long = long;
+  out-long = refl;
+}
 
-module _ {longest : ℕ} {f : List ℕ → List ℕ} {are : AnswersLines longest f} {c block out₀ line out : List ℕ} {u made at end : ℕ} (here : AtLine longest f are c block out₀ line out u made at end) where
+module _ {longest : ℕ} {f : List ℕ → List ℕ} {are : AnswersLines longest f} {c block out₀ line out : List ℕ}
+    {u made at end : ℕ} (here : AtLine longest f are c block out₀ line out u made at end) where
   pub end-inside : (at ≤ end) × (end ≤ length block)
-  end-inside = omega (arith, here .found, until-most (drop at block), length-drop at block)
+  end-inside = omega (arith, here .found, ends-at (drop at block) .0, length-drop at block)
 
   abbrev part : List ℕ
   part = midOf made (length out - made) out
@@ -112,25 +113,26 @@ module _ {longest : ℕ} {f : List ℕ → List ℕ} {are : AnswersLines longest
       }
 
   -- the line is answered, in the room after the answers before it
-  module _ (room : longest ≤ length out - made) (text part′ : List ℕ) (n : ℕ) (puts : PutsWithRoom longest (f text) part part′ n) where
+  module _ (room : longest ≤ length out - made) (text : List ℕ) {part′ : List ℕ} {n : ℕ}
+      (puts : PutsWithRoom longest (f text) part part′ n) where
     answer : Puts (f text) part part′ n
     answer =
         let many : length part ≡ length out - made = length-take-le (length out - made) (drop made out) (omega (arith, length-drop made out)) in
         rw (le-ltb (length part) longest (omega arith)) at puts
 
-    pub fits : made + n ≤ length out
-    fits = omega (arith, answer .0, are .short text)
+    pub fits : made + n ≤ length out₀
+    fits = omega (arith, answer .0, are .short text, here .out-long)
 
-    pub next : end < length block → Line (take 128 text) → {line′ : List ℕ} → length line′ ≡ 128 → {end′ : ℕ}
+    pub next : end < length block → Line (take 128 text) → {line′ : List ℕ} → length line′ ≡ length line → {end′ : ℕ}
         → end′ ≡ end + 1 + untilEnd (drop (end + 1) block)
         → AtLine longest f are c block out₀ line′ (putMid made (length out - made) out part′) 0 (made + n) (end + 1) end′
-    next h is long found =
+    next h is as-long found =
         let said = written f c (take at block) in
         let past = past-end f c block at (take u line) few (here .before .begins) (omega (arith, here .found)) in
         let same = ap f (line-is ∙ sym is) ∙ are .first-128 text in
         let all : written f c (take (end + 1) block) ≡ said ++ f text = rw (here .found) (past .1 ∙ ap (λ (l : List ℕ). said ++ l) same) in
-        let text-in : putMid made (length out - made) out part′ ≡ sets out made (f text)
-        = ap (putMid made (length out - made) out) (answer .1) ∙ in-part out (f text) made (omega (arith, fits, answer .0)) in
+        let room : made + length (f text) ≤ length out = omega (arith, fits, answer .0, here .out-long) in
+        let text-in = ap (putMid made (length out - made) out) (answer .1) ∙ in-part out (f text) made room in
         record {
           before = record {
             held = omega arith;
@@ -139,7 +141,7 @@ module _ {longest : ℕ} {f : List ℕ → List ℕ} {are : AnswersLines longest
           };
           found = found;
           inside = omega arith;
-          room = omega (arith, fits, here .out-long);
-          line-long = long;
+          room = fits;
+          line-long = as-long ∙ here .line-long;
           out-long = ap length text-in ∙ length-sets out made (f text) ∙ here .out-long;
         }

@@ -6,7 +6,7 @@ use Prim.Native.Nat.{ℕ, zero, suc, _+_, _≤_, _<_}
 use native.Mathlib.Nat.{zero-add, suc-add}
 use native.Mathlib.Numerals.{add-one}
 use native.Mathlib.Omega.{arith}
-use borrow.Author.Tests.{eq-eqb, ne-eqb, eqb-true}
+use borrow.Author.Tests.{eq-eqb, ne-eqb, eqb-true, not-true}
 use lib.Dec.{eqb}
 use lib.ListN.{length, getD, take, drop}
 use lib.Seq.{drop-cons}
@@ -24,13 +24,11 @@ module _ (s : List ℕ) (i : ℕ) (inside : i < length s) where
   pub passed : (getD s i 0 ≡ 10 → ⊥) → untilEnd (drop i s) ≡ suc (untilEnd (drop (i + 1) s))
   passed e = rw (add-one, drop-cons s i 0 inside, ne-eqb (getD s i 0) 10 e)
 
--- a byte that ends no line
-pub not-end : (b : ℕ) (bs : List ℕ) → hasNoEnd (b ∷ bs) ≡ true → eqb b 10 ≡ false
-not-end b bs e = by-test (eqb b 10) (first-half (not (eqb b 10)) (hasNoEnd bs) e)
-  where
-    by-test : (t : Bool) → not t ≡ true → t ≡ false
-    by-test true e = sym e
-    by-test false e = refl
+-- no byte ends a line: not the first, and none of the others
+pub no-end : (b : ℕ) (bs : List ℕ) → hasNoEnd (b ∷ bs) ≡ true → (eqb b 10 ≡ false) × (hasNoEnd bs ≡ true)
+no-end b bs e =
+    let here = not (eqb b 10) in
+    (not-true (eqb b 10) (first-half here (hasNoEnd bs) e), second-half here (hasNoEnd bs) e)
 
 -- k bytes without an end are passed over
 pub passed-over : (k : ℕ) (s : List ℕ) → k ≤ length s → hasNoEnd (take k s) ≡ true
@@ -38,34 +36,17 @@ pub passed-over : (k : ℕ) (s : List ℕ) → k ≤ length s → hasNoEnd (take
 passed-over zero s h e = sym (zero-add (untilEnd s))
 passed-over (suc k) [] h e = omega arith
 passed-over (suc k) (b ∷ s) h e =
-    rw (not-end b (take k s) e, suc-add) (ap suc (passed-over k s (omega arith) (second-half (not (eqb b 10)) (hasNoEnd (take k s)) e)))
+    let free = no-end b (take k s) e in
+    rw (free .0, suc-add) (ap suc (passed-over k s (omega arith) (free .1)))
 
--- the bytes before the first end, and the end
-pub until-most : (s : List ℕ) → untilEnd s ≤ length s
-until-most [] = omega arith
-until-most (b ∷ s) = by-byte (eqb b 10) (until-most s)
-  where
-    by-byte : (t : Bool) → untilEnd s ≤ length s → cond t 0 (suc (untilEnd s)) ≤ suc (length s)
-    by-byte true h = omega arith
-    by-byte false h = omega arith
+-- the first k bytes end no line, and the one after them does
+abbrev pub EndsAt : ℕ → List ℕ → Type 0
+EndsAt k s = (k ≤ length s) × (hasNoEnd (take k s) ≡ true) × (k < length s → getD s k 0 ≡ 10)
 
-pub until-free : (s : List ℕ) → hasNoEnd (take (untilEnd s) s) ≡ true
-until-free [] = refl
-until-free (b ∷ s) = by-byte (eqb b 10) refl (until-free s)
+pub ends-at : (s : List ℕ) → EndsAt (untilEnd s) s
+ends-at [] = (omega arith, refl, λ h. omega arith)
+ends-at (b ∷ s) = by-byte (eqb b 10) refl (ends-at s)
   where
-    by-byte : (t : Bool) → eqb b 10 ≡ t → hasNoEnd (take (untilEnd s) s) ≡ true
-        → hasNoEnd (take (cond t 0 (suc (untilEnd s))) (b ∷ s)) ≡ true
-    by-byte true e h = refl
-    by-byte false e h = rw e h
-
-pub until-ends : (s : List ℕ) → untilEnd s < length s → getD s (untilEnd s) 0 ≡ 10
-until-ends [] h = absurd (never h)
-  where
-    never : 0 < 0 → ⊥
-    never h = omega arith
-until-ends (b ∷ s) h = by-byte (eqb b 10) refl h (until-ends s)
-  where
-    by-byte : (t : Bool) → eqb b 10 ≡ t → cond t 0 (suc (untilEnd s)) < suc (length s)
-        → (untilEnd s < length s → getD s (untilEnd s) 0 ≡ 10) → getD (b ∷ s) (cond t 0 (suc (untilEnd s))) 0 ≡ 10
-    by-byte true e h rest = eqb-true b 10 e
-    by-byte false e h rest = rest (omega arith)
+    by-byte : (t : Bool) → eqb b 10 ≡ t → EndsAt (untilEnd s) s → EndsAt (cond t 0 (suc (untilEnd s))) (b ∷ s)
+    by-byte true e rest = (omega arith, refl, λ h. eqb-true b 10 e)
+    by-byte false e rest = (omega arith, rw e (rest .1), λ h. rest .2 (omega arith))

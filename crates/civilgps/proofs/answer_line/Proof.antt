@@ -2,34 +2,32 @@
 use mathlib.Core.Path.{refl, sym, ap, _∙_}
 use borrow.Author.Needs.{needs}
 use borrow.Author.Tests.{lt-ltb, le-ltb}
-use denote.Ref.{now}
-use lib.ListN.{length}
 use Rattle.scales.specs.Answers.{gpsIn}
-use Rattle.civilgps.proofs.answer_line.Statement.{statement}
-use Rattle.civilgps.proofs.answer_line.Tie as tie
+use Rattle.civilgps.proofs.answer_line as call
 
-returns : tie.Need-returns
-returns c = rw (lt-ltb (length (now (c .before .before .before .args .out))) 31 (c .if1 .taken)) (refl, refl)
+returns : call.Tie.Need-returns
+returns c = let short = c .if1 .taken in rw lt-ltb (refl, refl)
 
-returns-2 : tie.Need-returns-2
+returns-2 : call.Tie.Need-returns-2
 returns-2 c =
     let put = c .before .before in
     let arm = put .before .before .before in
-    let call = arm .before .before in
-    let out = now (call .before .before .before .before .args .out) in
-    rw (le-ltb (length out) 31 (call .before .if1 .left), sym (call .gps-of-line .ensures) ∙ ap gpsIn (arm .gps .given .1)) (put .put-gps .ensures)
+    let room = arm .before .before .before .if1 .left in
+    let found = sym (arm .before .before .gps-of-line .ensures) ∙ ap gpsIn (arm .gps .given .1) in
+    rw (le-ltb, found) (put .put-gps .ensures)
 
-returns-3 : tie.Need-returns-3
+returns-3 : call.Tie.Need-returns-3
 returns-3 c =
     let put = c .before .before in
     let arm = put .before .before .before in
-    let call = arm .before .before in
-    let out = now (call .before .before .before .before .args .out) in
-    rw (le-ltb (length out) 31 (call .before .if1 .left), sym (call .gps-of-line .ensures) ∙ ap gpsIn (arm .refusal .given .1)) (put .put-refused .ensures)
+    let room = arm .before .before .before .if1 .left in
+    let found = sym (arm .before .before .gps-of-line .ensures) ∙ ap gpsIn (arm .refusal .given .1) in
+    rw (le-ltb, found) (put .put-refused .ensures)
 
 -- returns, gps-of-line-requires, enum-known-gps, put-gps-requires, enum-known-refusal, put-refused-requires,
 -- same-length, returns-2, same-length-2, returns-3
-pub answer-line-spec : {M : Type 1} → statement M
+pub answer-line-spec : {M : Type 1} → call.Statement.statement M
 answer-line-spec =
-    tie.close
-    (tie.spec returns (λ c κs. search needs) (λ c. search needs) (λ c κs. search needs) (λ c. search needs) (λ c κs. search needs) (λ c. search needs) returns-2 (λ c. search needs) returns-3)
+    call.Tie.close
+    (call.Tie.spec returns (λ c κs. search needs) (λ c. search needs) (λ c κs. search needs) (λ c. search needs)
+    (λ c κs. search needs) (λ c. search needs) returns-2 (λ c. search needs) returns-3)

@@ -10,12 +10,6 @@ use Rattle.words.proofs.Stores.{joined}
 use Rattle.words.proofs.WayBack.{decimal-length}
 use Rattle.civilgps.proofs.put_gps as call
 
-slice-write-out : call.Tie.Need-slice-write-out
-slice-write-out c = omega (arith, decimal-length (c .before .before .before .before .before .args .gps .0))
-
-add-result : call.Tie.Need-add-result
-add-result c = omega (arith, decimal-length (c .before .before .before .before .before .args .gps .0))
-
 returns : call.Tie.Need-returns
 returns c =
     let count = c .before .before in
@@ -27,4 +21,8 @@ returns c =
 -- put-count-requires, slice-write-out, add-result, same-length, returns
 pub put-gps-spec : {M : Type 1} → call.Statement.statement M
 put-gps-spec =
-    call.Tie.close (call.Tie.spec (λ c κs. search needs) slice-write-out add-result (λ c. search needs) returns)
+    call.Tie.close
+    (call.Tie.spec (λ c κs. search needs)
+    (λ c. omega (arith, decimal-length (c .before .before .before .before .before .args .gps .0)))
+    (λ c. omega (arith, decimal-length (c .before .before .before .before .before .args .gps .0)))
+    (λ c. search needs) returns)

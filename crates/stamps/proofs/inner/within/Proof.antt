@@ -7,7 +7,6 @@ use borrow.Author.Needs.{needs}
 use denote.Ref.{now}
 use lib.ListN.{length, take, drop, length-drop}
 use lib.Seq.{take-all}
-use Rattle.stamps.specs.Form.{within}
 use Rattle.stamps.proofs.Between.{not-as-long, not-at-start, at-end}
 use Rattle.stamps.proofs.inner.within as call
 

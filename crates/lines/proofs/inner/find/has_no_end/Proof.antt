@@ -31,11 +31,8 @@ loop-again c =
 returns : call.Tie.Need-returns Inv-loop μ-loop
 returns c =
     let at = c .before in
-    sym (at .loop .inv .0 ∙ rw (
-      drop-of-length-le (now (at .before .args .s)) {i =
-          at .loop .i} (omega arith),
-      and-true (at .loop .none),
-    ))
+    let none = drop-of-length-le (now (at .before .args .s)) {i = at .loop .i} (omega arith) in
+    sym (at .loop .inv .0 ∙ rw (none, and-true (at .loop .none)))
 
 -- loop-holds, shared-slice-read-none, add-i, loop-less, loop-again, returns
 pub has-no-end-spec : {M : Type 1} → call.Statement.statement M

@@ -1,11 +1,11 @@
 -- `keep`: it stores as many bytes as there is room for.
-use mathlib.Core.Path.{_≡_, sym, ap, _∙_}
-use Prim.Native.Nat.{min, _+_, _-_}
+use mathlib.Core.Path.{_≡_, ap, _∙_}
+use Prim.Native.Nat.{ℕ, _+_, _-_}
 use native.Mathlib.Omega.{arith}
 use borrow.Author.Needs.{needs}
 use denote.Ref.{now}
-use lib.ListN.{length, take, drop, length-drop}
-use lib.Seq.{sets, take-take, length-take-le}
+use lib.ListN.{take, drop, length-drop}
+use lib.Seq.{sets}
 use Rattle.lines.proofs.Blocks.{stored}
 use Rattle.lines.proofs.inner.find.keep as call
 
@@ -15,14 +15,12 @@ returns c =
     let least = put .before .before .before .least in
     let a = put .before .before .before .before .before .before .args in
     let k = least .result in
+    let line = now (a .line) in
     let rest = drop (a .at) (now (a .block)) in
-    let s = take (a .end - a .at) rest in
-    let long : length s ≡ a .end - a .at = length-take-le (a .end - a .at) rest (omega (arith, length-drop (a .at) (now (a .block)))) in
-    let many : k ≡ min (length s) (128 - a .used) = omega (arith, least .ensures) in
     let few : a .at + k - a .at ≡ k = omega arith in
-    let bytes : take (a .at + k - a .at) rest ≡ take k s = rw few (sym (take-take k (a .end - a .at) rest (omega (arith, least .ensures)))) in (
-      ap (take (a .used + k)) (put .put-bytes .ensures ∙ ap (sets (now (a .line)) (a .used)) bytes)
-          ∙ rw many (stored (now (a .line)) (a .used) s (omega arith) (omega arith)),
+    let long = length-drop (a .at) (now (a .block)) in (
+      ap (take (a .used + k)) (put .put-bytes .ensures ∙ ap (λ (j : ℕ). sets line (a .used) (take j rest)) few)
+          ∙ stored line (a .used) rest (a .end - a .at) k (omega arith) (omega arith) (omega arith) (least .ensures),
       omega (arith, least .ensures),
     )
 

@@ -5,15 +5,14 @@ use borrow.Author.Needs.{needs}
 use denote.Ref.{now}
 use Rattle.lines.specs.Pieces.{lineUpTo}
 use Rattle.lines.proofs.Blocks.{kept}
-use Rattle.lines.proofs.inner.find.whole_line.Statement.{statement}
-use Rattle.lines.proofs.inner.find.whole_line.Tie as tie
+use Rattle.lines.proofs.inner.find.whole_line as call
 
-returns : tie.Need-returns
+returns : call.Tie.Need-returns
 returns c =
     let none : c .before .before .before .before .args .used ≡ 0 = c .before .if1 .taken in
     rw none
 
-returns-2 : tie.Need-returns-2
+returns-2 : call.Tie.Need-returns-2
 returns-2 c =
     let call = c .before .before .before .before in
     let a = call .before .before .before .before .before .args in
@@ -22,7 +21,8 @@ returns-2 c =
 
 -- sub-result, part-result-start, part-result-end, returns, keep-requires, sub-result-2, part-result-start-2,
 -- part-result-end-2, returns-2
-pub whole-line-spec : {M : Type 1} → statement M
+pub whole-line-spec : {M : Type 1} → call.Statement.statement M
 whole-line-spec =
-    tie.close
-    (tie.spec (λ c. search needs) (λ c. search needs) (λ c. search needs) returns (λ c κs. search needs) (λ c. search needs) (λ c. search needs) (λ c. search needs) returns-2)
+    call.Tie.close
+    (call.Tie.spec (λ c. search needs) (λ c. search needs) (λ c. search needs) returns (λ c κs. search needs)
+    (λ c. search needs) (λ c. search needs) (λ c. search needs) returns-2)

@@ -11,12 +11,6 @@ use Rattle.words.proofs.WayBack.{decimal-length}
 use Rattle.lines.specs.OutcomeLine.{refusedWord}
 use Rattle.lines.proofs.inner.put.put_refused as call
 
-slice-write-out : call.Tie.Need-slice-write-out
-slice-write-out c = omega (arith, decimal-length (c .before .before .before .number .result))
-
-add-result : call.Tie.Need-add-result
-add-result c = omega (arith, decimal-length (c .before .before .before .number .result))
-
 same-length : call.Tie.Need-same-length
 same-length c =
     let count = c .before .before in
@@ -40,4 +34,6 @@ returns c =
 pub put-refused-spec : {M : Type 1} → call.Statement.statement M
 put-refused-spec =
     call.Tie.close
-    (call.Tie.spec (λ c. search needs) (λ c κs. search needs) (λ c κs. search needs) (λ c. search needs) (λ c κs. search needs) slice-write-out add-result same-length returns)
+    (call.Tie.spec (λ c. search needs) (λ c κs. search needs) (λ c κs. search needs) (λ c. search needs)
+    (λ c κs. search needs) (λ c. omega (arith, decimal-length (c .before .before .before .number .result)))
+    (λ c. omega (arith, decimal-length (c .before .before .before .number .result))) same-length returns)
