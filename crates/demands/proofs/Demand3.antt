@@ -43,7 +43,7 @@ of-pair es r to from there back a b =
 module _ {Lifetimes : Type 0} {Arguments Answer End : Lifetimes → Type 0}
     {Contract : (κ : Lifetimes) → Arguments κ → Answer κ → End κ → Type 0}
     {Asks : (κ : Lifetimes) → Arguments κ → Type 0} {tells : (κ : Lifetimes) → Answer κ → End κ → Outcome ℕ} where
-  -- a contract that says d to those who ask so allows nothing else
+  -- a contract that says d of an input allows nothing else
   allowed : (d : Outcome ℕ)
       → ((κ : Lifetimes) (a : Arguments κ) (r : Answer κ) (e : End κ) → Asks κ a → Contract κ a r e → tells κ r e ≡ d)
       → (o : Outcome ℕ) → Allows Contract Asks tells o → o ≡ d
@@ -64,7 +64,7 @@ of-table t (short, r) to from =
         rw (le-leb (t .len) 64 (omega (arith, short)))
         (valid-tested (entriesOf t) .1 (regular-tested (entriesOf t) .0 r .valid))
 
--- what is answered by the table in an image, to the one who asks of b and n
+-- what the table in an image b answers for n
 module _ (convert : List Entry → ℕ → Outcome ℕ) {b : List ℕ} (size : length b ≡ imageBytes) {n : ℕ} where
   of-image : {b′ : List ℕ} {m : ℕ} → (m ≡ n) × (b′ ≡ b)
       → byImage b′ (λ es. convert es m) ≡ ofValid (tableIn b) (convert (entriesOf (tableIn b)) n)

@@ -14,7 +14,7 @@ use Rattle.tables.proofs.Neighbours.{both}
 use Rattle.tables.proofs.Reached as p
 use Rattle.tables.proofs.Reached.{chain, reached, Between}
 
--- k t leap seconds came up to t, one at each threshold after the first
+-- k t: the leap seconds up to t, one at each threshold after the first
 pub record LeapSeconds (es : List Entry) (k : ℕ → ℕ) : Type 0 where
   pub in-force : (t : ℕ) → offsetAt es t ≡ pos (19 + k t)
   pub few : (t : ℕ) → k t ≤ 63

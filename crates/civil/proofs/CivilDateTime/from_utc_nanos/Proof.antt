@@ -1,4 +1,4 @@
--- The engine gives the date of the count's day, and quotients and rests its time.
+-- The engine gives the date of the count's day; quotients and remainders give its time.
 use mathlib.Core.Path.{ap, _∙_}
 use Prim.Native.Nat.{_/_, _%_}
 use native.Mathlib.Omega.{arith}

@@ -1,4 +1,4 @@
--- `year::before_zero` is safe: a number below 2 ^ 31 fits 32 bits when it is turned round.
+-- `year::before_zero` is safe: a number below 2 ^ 31 fits 32 bits when it is negated.
 use mathlib.Core.Path.{ap, _∙_}
 use Prim.Native.Nat.{ℕ, zero, suc, _<_, _^_}
 use native.Mathlib.Omega.{arith}
