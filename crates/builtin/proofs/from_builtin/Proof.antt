@@ -10,6 +10,4 @@ unfolding builtin events thresholdOf entriesFrom formula era yoe doy doe paired
 returns c = c .table-of .ensures
 
 pub from-builtin-spec : {M : Type 1} → call.Statement.statement M
-from-builtin-spec =
-    call.Tie.close
-    (call.Tie.spec (λ c. search needs) (λ c. search needs) (λ c κs. search needs) returns)
+from-builtin-spec = call.Tie.close (call.Tie.spec (search needs) (search needs) (search needs) returns)

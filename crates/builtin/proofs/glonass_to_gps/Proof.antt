@@ -13,5 +13,4 @@ returns c =
     ∙ ap (λ (o : Outcome ℕ). then o (utcToGps builtin)) (c .before .before .utc-from-glonass .ensures)
 
 pub glonass-to-gps-spec : {M : Type 1} → call.Statement.statement M
-glonass-to-gps-spec =
-    call.Tie.close (call.Tie.spec (λ c κs. search needs) (λ c κs. search needs) (λ c κs. search needs) returns)
+glonass-to-gps-spec = call.Tie.close (call.Tie.spec (search needs) (search needs) (search needs) returns)

@@ -9,5 +9,4 @@ returns : call.Tie.Need-returns
 returns c = c .unix-from-utc .ensures ∙ ap (changed utcToUnix) (c .before .utc-from-gps .ensures)
 
 pub gps-as-unix-seconds-spec : {M : Type 1} → call.Statement.statement M
-gps-as-unix-seconds-spec =
-    call.Tie.close (call.Tie.spec (λ c κs. search needs) (λ c κs. search needs) returns)
+gps-as-unix-seconds-spec = call.Tie.close (call.Tie.spec (search needs) (search needs) returns)

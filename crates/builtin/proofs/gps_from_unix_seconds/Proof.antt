@@ -15,5 +15,4 @@ returns c =
     (c .before .before .from-unix-seconds .ensures ∙ ap unixToUtc (toZ-ofZ (c .before .before .before .fits .seconds)))
 
 pub gps-from-unix-seconds-spec : {M : Type 1} → call.Statement.statement M
-gps-from-unix-seconds-spec =
-    call.Tie.close (call.Tie.spec (λ c κs. search needs) (λ c κs. search needs) (λ c κs. search needs) returns)
+gps-from-unix-seconds-spec = call.Tie.close (call.Tie.spec (search needs) (search needs) (search needs) returns)

@@ -13,5 +13,4 @@ returns c =
     ∙ ap (λ (o : Outcome ℕ). then o (down glonassEpoch)) (c .before .before .utc-from-gps .ensures)
 
 pub gps-to-glonass-spec : {M : Type 1} → call.Statement.statement M
-gps-to-glonass-spec =
-    call.Tie.close (call.Tie.spec (λ c κs. search needs) (λ c κs. search needs) (λ c κs. search needs) returns)
+gps-to-glonass-spec = call.Tie.close (call.Tie.spec (search needs) (search needs) (search needs) returns)

@@ -15,4 +15,4 @@ returns c =
     toZ-ofZ fits ∙ ap offset-of (c .before .look-up .ensures)
 
 pub tai-minus-utc-at-spec : {M : Type 1} → call.Statement.statement M
-tai-minus-utc-at-spec = call.Tie.close (call.Tie.spec (λ c κs. search needs) returns)
+tai-minus-utc-at-spec = call.Tie.close (call.Tie.spec (search needs) returns)

@@ -7,4 +7,4 @@ returns : call.Tie.Need-returns
 returns c = c .of .ensures ∙ c .before .gps-from-utc .ensures
 
 pub utc-to-gps-spec : {M : Type 1} → call.Statement.statement M
-utc-to-gps-spec = call.Tie.close (call.Tie.spec (λ c κs. search needs) (λ c κs. search needs) returns)
+utc-to-gps-spec = call.Tie.close (call.Tie.spec (search needs) (search needs) returns)

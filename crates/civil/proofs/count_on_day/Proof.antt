@@ -78,5 +78,4 @@ returns-3 c =
     ∙ ap (λ (z : ℤ). onDay (z -ℤ pos utcEpochDay) (start .args .time)) (sym (on .is))
 
 pub count-on-day-spec : {M : Type 1} → call.Statement.statement M
-count-on-day-spec =
-    call.Tie.close (call.Tie.spec sub-day cast-day mul-plus (λ c κs. search needs) returns returns-2 returns-3)
+count-on-day-spec = call.Tie.close (call.Tie.spec sub-day cast-day mul-plus (search needs) returns returns-2 returns-3)

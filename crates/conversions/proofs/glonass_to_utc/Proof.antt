@@ -7,4 +7,4 @@ returns : call.Tie.Need-returns
 returns c = c .of .ensures ∙ c .before .utc-from-glonass .ensures
 
 pub glonass-to-utc-spec : {M : Type 1} → call.Statement.statement M
-glonass-to-utc-spec = call.Tie.close (call.Tie.spec (λ c κs. search needs) (λ c κs. search needs) returns)
+glonass-to-utc-spec = call.Tie.close (call.Tie.spec (search needs) (search needs) returns)

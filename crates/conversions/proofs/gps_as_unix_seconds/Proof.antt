@@ -15,5 +15,4 @@ returns c =
     ∙ eight-changed utcToUnix (validTable (a .table)) (gpsToUtc (entriesOf (a .table)) (a .gps .0))
 
 pub gps-as-unix-seconds-spec : {M : Type 1} → call.Statement.statement M
-gps-as-unix-seconds-spec =
-    call.Tie.close (call.Tie.spec (λ c κs. search needs) (λ c κs. search needs) returns)
+gps-as-unix-seconds-spec = call.Tie.close (call.Tie.spec (search needs) (search needs) returns)

@@ -16,5 +16,4 @@ returns c =
     ∙ ap (λ (o : Outcome ℕ). ofValid t (then o (utcToGps (entriesOf t)))) (c .before .before .from-unix-seconds .ensures ∙ ap unixToUtc (toZ-ofZ (start .fits .seconds)))
 
 pub gps-from-unix-seconds-spec : {M : Type 1} → call.Statement.statement M
-gps-from-unix-seconds-spec =
-    call.Tie.close (call.Tie.spec (λ c κs. search needs) (λ c κs. search needs) (λ c κs. search needs) returns)
+gps-from-unix-seconds-spec = call.Tie.close (call.Tie.spec (search needs) (search needs) (search needs) returns)

@@ -17,5 +17,4 @@ returns c =
     ∙ eight-first (down glonassEpoch) (validTable (a .table)) (gpsToUtc (entriesOf (a .table)) (a .gps .0))
 
 pub gps-to-glonass-spec : {M : Type 1} → call.Statement.statement M
-gps-to-glonass-spec =
-    call.Tie.close (call.Tie.spec (λ c κs. search needs) (λ c κs. search needs) (λ c κs. search needs) returns)
+gps-to-glonass-spec = call.Tie.close (call.Tie.spec (search needs) (search needs) (search needs) returns)

@@ -7,4 +7,4 @@ returns : call.Tie.Need-returns
 returns c = c .of .ensures ∙ c .before .glonass-from-utc .ensures
 
 pub utc-to-glonass-spec : {M : Type 1} → call.Statement.statement M
-utc-to-glonass-spec = call.Tie.close (call.Tie.spec (λ c κs. search needs) (λ c κs. search needs) returns)
+utc-to-glonass-spec = call.Tie.close (call.Tie.spec (search needs) (search needs) returns)

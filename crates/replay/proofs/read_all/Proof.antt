@@ -13,25 +13,6 @@ abbrev μ-loop : call.Tie.MeasureT-loop
 
 pub read-all-spec : {M : Type 1} → call.Statement.statement M
 read-all-spec =
-    call.Tie.close
-    (call.Tie.spec
-    Inv-loop
-    μ-loop
-    (λ c κs. search needs)
-    (λ c. search needs)
-    (λ c κs. search needs)
-    (λ c κs. search needs)
-    (λ c. search needs)
-    (λ c. search needs)
-    (λ c. search needs)
-    (λ c. search needs)
-    (λ c κs. search needs)
-    (λ c. search needs)
-    (λ c. search needs)
-    (λ c. search needs)
-    (λ c κs. search needs)
-    (λ c. search needs)
-    (λ c. search needs)
-    (λ c. search needs)
-    (λ c. search needs)
-    (λ c. search needs))
+    call.Tie.close (call.Tie.spec Inv-loop μ-loop (search needs) (search needs) (search needs) (search needs)
+    (search needs) (search needs) (search needs) (search needs) (search needs) (search needs) (search needs) (search
+    needs) (search needs) (search needs) (search needs) (search needs) (search needs) (search needs))

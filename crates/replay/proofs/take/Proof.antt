@@ -12,14 +12,5 @@ abbrev μ-loop : call.Tie.MeasureT-loop
 
 pub take-spec : {M : Type 1} → call.Statement.statement M
 take-spec =
-    call.Tie.close
-    (call.Tie.spec
-    Inv-loop
-    μ-loop
-    (λ c. search needs)
-    (λ c. search needs)
-    (λ c κs. search needs)
-    (λ c. search needs)
-    (λ c. search needs)
-    (λ c. search needs)
-    (λ c. search needs))
+    call.Tie.close (call.Tie.spec Inv-loop μ-loop (search needs) (search needs) (search needs) (search needs)
+    (search needs) (search needs) (search needs))

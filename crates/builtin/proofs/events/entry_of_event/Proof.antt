@@ -33,5 +33,4 @@ returns-2 c =
     (sym (threshold-is (arm .before .before)) ∙ ap countIn (arm .why .given .1)))
 
 pub entry-of-event-spec : {M : Type 1} → call.Statement.statement M
-entry-of-event-spec =
-    call.Tie.close (call.Tie.spec (λ c κs. search needs) (λ c. search needs) (λ c. search needs) returns returns-2)
+entry-of-event-spec = call.Tie.close (call.Tie.spec (search needs) (search needs) (search needs) returns returns-2)

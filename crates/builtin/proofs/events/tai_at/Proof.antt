@@ -24,4 +24,4 @@ returns c =
     ∙ ap countOf (ap (λ (z : ℤ). pos (a .utc) -ℤ z) (shift (c .before)) ∙ taken (pos (a .utc)) (inNanos (a .offset)) (pos E))
 
 pub tai-at-spec : {M : Type 1} → call.Statement.statement M
-tai-at-spec = call.Tie.close (call.Tie.spec (λ c κs. search needs) (λ c κs. search needs) returns)
+tai-at-spec = call.Tie.close (call.Tie.spec (search needs) (search needs) returns)

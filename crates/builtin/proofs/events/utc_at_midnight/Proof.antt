@@ -18,4 +18,4 @@ returns c =
     c .to-utc-nanos .ensures ∙ ap (λ (y : ℤ). countAt (midnight (on y (date .month) (date .day)))) (toZ-ofZ fits)
 
 pub utc-at-midnight-spec : {M : Type 1} → call.Statement.statement M
-utc-at-midnight-spec = call.Tie.close (call.Tie.spec (λ c κs. search needs) returns)
+utc-at-midnight-spec = call.Tie.close (call.Tie.spec (search needs) returns)

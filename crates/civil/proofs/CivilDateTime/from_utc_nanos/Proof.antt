@@ -21,12 +21,5 @@ returns c =
 
 pub from-utc-nanos-spec : {M : Type 1} → call.Statement.statement M
 from-utc-nanos-spec =
-    call.Tie.close
-    (call.Tie.spec
-    (λ c. search needs)
-    (λ c κs. search needs)
-    (λ c. search needs)
-    (λ c. search needs)
-    (λ c. search needs)
-    (λ c. search needs)
-    returns)
+    call.Tie.close (call.Tie.spec (search needs) (search needs) (search needs) (search needs) (search needs)
+    (search needs) returns)

@@ -25,5 +25,4 @@ returns c =
     ∙ (λ i. onDay (day i -ℤ pos utcEpochDay) (c .before .time-of-day .ensures i))
 
 pub to-utc-nanos-spec : {M : Type 1} → call.Statement.statement M
-to-utc-nanos-spec =
-    call.Tie.close (call.Tie.spec (λ c κs. search needs) (λ c κs. search needs) (λ c κs. search needs) returns)
+to-utc-nanos-spec = call.Tie.close (call.Tie.spec (search needs) (search needs) (search needs) returns)

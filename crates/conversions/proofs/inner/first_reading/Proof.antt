@@ -12,5 +12,4 @@ returns c =
     ∙ ap (valueIn 0) (c .before .minus .ensures ∙ ap countOf (first-is (c .before .before .args .utc)))
 
 pub first-reading-spec : {M : Type 1} → call.Statement.statement M
-first-reading-spec =
-    call.Tie.close (call.Tie.spec (λ c. search needs) (λ c κs. search needs) (λ c κs. search needs) returns)
+first-reading-spec = call.Tie.close (call.Tie.spec (search needs) (search needs) (search needs) returns)

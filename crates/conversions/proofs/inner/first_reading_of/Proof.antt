@@ -12,4 +12,4 @@ returns c =
 
 pub first-reading-of-spec : {M : Type 1} → call.Statement.statement M
 first-reading-of-spec =
-    call.Tie.close (call.Tie.spec (λ c. search needs) (λ c κs. search needs) (λ c. search needs) returns (λ c. search needs))
+    call.Tie.close (call.Tie.spec (search needs) (search needs) (search needs) returns (λ c. search needs))

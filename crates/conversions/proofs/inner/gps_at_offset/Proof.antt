@@ -31,4 +31,4 @@ returns-2 c =
     (ap (λ (z : ℤ). pos (a .utc) -ℤ z) (shift (c .before)) ∙ taken (pos (a .utc)) (inNanos (a .offset -ℤ pos 19)) (pos E)))
 
 pub gps-at-offset-spec : {M : Type 1} → call.Statement.statement M
-gps-at-offset-spec = call.Tie.close (call.Tie.spec returns (λ c κs. search needs) (λ c κs. search needs) returns-2)
+gps-at-offset-spec = call.Tie.close (call.Tie.spec returns (search needs) (search needs) returns-2)

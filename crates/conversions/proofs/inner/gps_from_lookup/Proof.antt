@@ -23,5 +23,4 @@ returns-2 c =
     sym (stops (gpsAtOffset (c .before .before .before .args .found .offset)) (ap countIn (c .before .utc2 .given .1)))
 
 pub gps-from-lookup-spec : {M : Type 1} → call.Statement.statement M
-gps-from-lookup-spec =
-    call.Tie.close (call.Tie.spec (λ c. search needs) (λ c κs. search needs) (λ c. search needs) returns returns-2)
+gps-from-lookup-spec = call.Tie.close (call.Tie.spec (search needs) (search needs) (search needs) returns returns-2)

@@ -21,4 +21,4 @@ returns c =
 
 pub last-reading-of-spec : {M : Type 1} → call.Statement.statement M
 last-reading-of-spec =
-    call.Tie.close (call.Tie.spec (λ c. search needs) (λ c κs. search needs) (λ c. search needs) returns (λ c. search needs))
+    call.Tie.close (call.Tie.spec (search needs) (search needs) (search needs) returns (λ c. search needs))

@@ -27,5 +27,4 @@ returns c =
     ∙ ap countOf (ap (λ (z : ℤ). pos (a .utc) -ℤ z) (shift (c .before .before)) ∙ taken (pos (a .utc)) (inNanos (a .offset)) (pos E)))
 
 pub second-reading-spec : {M : Type 1} → call.Statement.statement M
-second-reading-spec =
-    call.Tie.close (call.Tie.spec (λ c κs. search needs) (λ c κs. search needs) (λ c κs. search needs) returns)
+second-reading-spec = call.Tie.close (call.Tie.spec (search needs) (search needs) (search needs) returns)

@@ -31,4 +31,4 @@ returns-2 c =
     (ap (λ (z : ℤ). pos (a .tai) +ℤ z) (shift (c .before)) ∙ added (pos (a .tai)) (inNanos (a .offset)) (pos E)))
 
 pub utc-at-offset-spec : {M : Type 1} → call.Statement.statement M
-utc-at-offset-spec = call.Tie.close (call.Tie.spec returns (λ c κs. search needs) (λ c κs. search needs) returns-2)
+utc-at-offset-spec = call.Tie.close (call.Tie.spec returns (search needs) (search needs) returns-2)

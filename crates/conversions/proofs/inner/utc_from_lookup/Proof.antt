@@ -16,5 +16,4 @@ returns-2 : call.Tie.Need-returns-2
 returns-2 c = sym (stops (utcFromLookup (countIn (c .before .before .before .args .tai))) (ap lookupIn (c .before .found2 .given .1)))
 
 pub utc-from-lookup-spec : {M : Type 1} → call.Statement.statement M
-utc-from-lookup-spec =
-    call.Tie.close (call.Tie.spec (λ c. search needs) (λ c κs. search needs) (λ c. search needs) returns returns-2)
+utc-from-lookup-spec = call.Tie.close (call.Tie.spec (search needs) (search needs) (search needs) returns returns-2)

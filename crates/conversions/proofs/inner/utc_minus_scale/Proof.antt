@@ -16,5 +16,4 @@ returns c =
     rw (toZ-ofZ (c .fits .lead), toZ-ofZ (nanos-fit (c .args .lead) (c .pre)), toZ-ofZ (shift-fits (c .args .lead) (c .pre)))
 
 pub utc-minus-scale-spec : {M : Type 1} → call.Statement.statement M
-utc-minus-scale-spec =
-    call.Tie.close (call.Tie.spec (λ c. search needs) (λ c. search needs) mul-result sub-result returns)
+utc-minus-scale-spec = call.Tie.close (call.Tie.spec (search needs) (search needs) mul-result sub-result returns)

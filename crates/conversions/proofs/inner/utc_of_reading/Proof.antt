@@ -22,5 +22,4 @@ returns-2 c =
     sym (stops (utcOfTai (c .before .before .before .args .found .offset)) (ap countIn (c .before .tai2 .given .1)))
 
 pub utc-of-reading-spec : {M : Type 1} → call.Statement.statement M
-utc-of-reading-spec =
-    call.Tie.close (call.Tie.spec (λ c. search needs) (λ c κs. search needs) (λ c. search needs) returns returns-2)
+utc-of-reading-spec = call.Tie.close (call.Tie.spec (search needs) (search needs) (search needs) returns returns-2)

@@ -12,4 +12,4 @@ returns c =
     (c .count .ensures)
 
 pub plaitgate-builtin-glonass-to-gps-spec : {M : Type 1} → call.Statement.statement M
-plaitgate-builtin-glonass-to-gps-spec = call.Tie.close (call.Tie.spec (λ c κs. search) (λ c κs. search) (λ c κs. search) returns)
+plaitgate-builtin-glonass-to-gps-spec = call.Tie.close (call.Tie.spec (search) (search) (search) returns)

@@ -14,4 +14,4 @@ returns c =
     gives-step 0 (λ o. then o (utcToGps builtin)) (steps .gps-from-utc .ensures) utc (c .count .ensures)
 
 pub plaitgate-builtin-gps-from-unix-seconds-spec : {M : Type 1} → call.Statement.statement M
-plaitgate-builtin-gps-from-unix-seconds-spec = call.Tie.close (call.Tie.spec (λ c κs. search) (λ c κs. search) (λ c κs. search) returns)
+plaitgate-builtin-gps-from-unix-seconds-spec = call.Tie.close (call.Tie.spec (search) (search) (search) returns)

@@ -9,4 +9,4 @@ returns : tie.Need-returns
 returns c = (refl, toZ-ofZ (record { sfits = c .tai-minus-utc-at .ok }) ∙ c .tai-minus-utc-at .ensures)
 
 pub plaitgate-builtin-tai-minus-utc-at-spec : {M : Type 1} → statement M
-plaitgate-builtin-tai-minus-utc-at-spec = tie.close (tie.spec (λ c κs. search needs) returns)
+plaitgate-builtin-tai-minus-utc-at-spec = tie.close (tie.spec (search needs) returns)

@@ -14,4 +14,4 @@ returns c =
     (steps .before .utc-from-glonass .ensures) (c .count .ensures)
 
 pub plaitgate-table-glonass-to-gps-spec : {M : Type 1} → call.Statement.statement M
-plaitgate-table-glonass-to-gps-spec = call.Tie.close (call.Tie.spec (λ c κs. search) (λ c κs. search) (λ c κs. search) returns)
+plaitgate-table-glonass-to-gps-spec = call.Tie.close (call.Tie.spec (search) (search) (search) returns)

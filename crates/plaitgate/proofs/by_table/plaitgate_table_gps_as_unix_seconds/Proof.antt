@@ -17,4 +17,4 @@ returns c =
     (c .unix .ensures))
 
 pub plaitgate-table-gps-as-unix-seconds-spec : {M : Type 1} → call.Statement.statement M
-plaitgate-table-gps-as-unix-seconds-spec = call.Tie.close (call.Tie.spec (λ c κs. search) (λ c κs. search) (λ c κs. search) returns)
+plaitgate-table-gps-as-unix-seconds-spec = call.Tie.close (call.Tie.spec (search) (search) (search) returns)

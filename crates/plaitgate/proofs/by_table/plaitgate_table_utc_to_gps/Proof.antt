@@ -4,5 +4,5 @@ use Rattle.plaitgate.proofs.by_table.plaitgate_table_utc_to_gps as call
 
 pub plaitgate-table-utc-to-gps-spec : {M : Type 1} → call.Statement.statement M
 plaitgate-table-utc-to-gps-spec =
-    call.Tie.close (call.Tie.spec (λ c κs. search) (λ c κs. search)
+    call.Tie.close (call.Tie.spec (search) (search)
     (λ c. gives-same 0 (c .before .before .gps-from-utc .ensures) (c .count .ensures)))

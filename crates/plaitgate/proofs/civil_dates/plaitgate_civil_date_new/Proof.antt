@@ -18,4 +18,4 @@ returns c =
     )
 
 pub plaitgate-civil-date-new-spec : {M : Type 1} → call.Statement.statement M
-plaitgate-civil-date-new-spec = call.Tie.close (call.Tie.spec (λ c κs. search needs) returns)
+plaitgate-civil-date-new-spec = call.Tie.close (call.Tie.spec (search needs) returns)

@@ -4,5 +4,9 @@ use Rattle.plaitgate.proofs.civil_times.plaitgate_civil_from_utc_nanos 
 
 pub plaitgate-civil-from-utc-nanos-spec : {M : Type 1} → call.Statement.statement M
 plaitgate-civil-from-utc-nanos-spec =
-    call.Tie.close (call.Tie.spec (λ c κs. search) (λ c κs. search)
-    (λ c. (refl, c .civil .ensures ∙ c .before .before .before .before .before .before .before .before .from-utc-nanos .ensures)))
+    call.Tie.close (call.Tie.spec (search) (search)
+    (λ c. (
+      refl,
+      c .civil .ensures ∙ c .before .before .before .before .before .before .before .before .from-utc-nanos
+          .ensures,
+    )))

@@ -5,6 +5,6 @@ use Rattle.plaitgate.proofs.civil_times.plaitgate_civil_is_whole_second
 
 pub plaitgate-civil-is-whole-second-spec : {M : Type 1} → call.Statement.statement M
 plaitgate-civil-is-whole-second-spec =
-    call.Tie.close (call.Tie.spec (λ c κs. search)
-    (λ c. (refl, ap (λ (yes : Bool). cond yes 1 0) (sym (c .if1 .taken) ∙ c .before .is-whole-second .ensures)))
-    (λ c. (refl, ap (λ (yes : Bool). cond yes 1 0) (sym (c .if1 .left) ∙ c .before .is-whole-second .ensures))))
+    call.Tie.close (call.Tie.spec (search)
+    (λ c. (refl, ap (λ (yes : Bool). cond yes 1 0) (sym (c .if1 .taken) ∙ c .before .is-whole-second .ensures))) (λ c.
+    (refl, ap (λ (yes : Bool). cond yes 1 0) (sym (c .if1 .left) ∙ c .before .is-whole-second .ensures))))

@@ -15,4 +15,4 @@ returns c =
     (c .count .ensures)
 
 pub plaitgate-civil-to-utc-nanos-spec : {M : Type 1} → call.Statement.statement M
-plaitgate-civil-to-utc-nanos-spec = call.Tie.close (call.Tie.spec (λ c κs. search) (λ c κs. search) returns)
+plaitgate-civil-to-utc-nanos-spec = call.Tie.close (call.Tie.spec (search) (search) returns)

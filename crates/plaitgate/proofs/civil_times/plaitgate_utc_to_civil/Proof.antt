@@ -4,5 +4,9 @@ use Rattle.plaitgate.proofs.civil_times.plaitgate_utc_to_civil as call
 
 pub plaitgate-utc-to-civil-spec : {M : Type 1} → call.Statement.statement M
 plaitgate-utc-to-civil-spec =
-    call.Tie.close (call.Tie.spec (λ c κs. search) (λ c κs. search)
-    (λ c. (refl, c .civil .ensures ∙ c .before .before .before .before .before .before .before .before .to-civil .ensures)))
+    call.Tie.close (call.Tie.spec (search) (search)
+    (λ c. (
+      refl,
+      c .civil .ensures ∙ c .before .before .before .before .before .before .before .before .to-civil
+          .ensures,
+    )))

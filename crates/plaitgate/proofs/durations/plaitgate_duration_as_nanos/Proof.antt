@@ -5,7 +5,7 @@ use Rattle.plaitgate.proofs.durations.plaitgate_duration_as_nanos as ca
 
 pub plaitgate-duration-as-nanos-spec : {M : Type 1} → call.Statement.statement M
 plaitgate-duration-as-nanos-spec =
-    call.Tie.close (call.Tie.spec (λ c κs. search)
+    call.Tie.close (call.Tie.spec (search)
     (λ c. (
       refl,
       toZ-ofZ (record {

@@ -6,7 +6,7 @@ use Rattle.plaitgate.proofs.durations.plaitgate_duration_from_nanos as 
 
 pub plaitgate-duration-from-nanos-spec : {M : Type 1} → call.Statement.statement M
 plaitgate-duration-from-nanos-spec =
-    call.Tie.close (call.Tie.spec (λ c κs. search)
+    call.Tie.close (call.Tie.spec (search)
     (λ c. (
       refl,
       toZ-ofZ (record {

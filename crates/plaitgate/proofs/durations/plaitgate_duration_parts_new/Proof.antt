@@ -7,4 +7,4 @@ returns : call.Tie.Need-returns
 returns c = gives-same (partsOf 0) (c .before .before .before .new .ensures) (c .parts .ensures)
 
 pub plaitgate-duration-parts-new-spec : {M : Type 1} → call.Statement.statement M
-plaitgate-duration-parts-new-spec = call.Tie.close (call.Tie.spec (λ c κs. search) (λ c κs. search) returns)
+plaitgate-duration-parts-new-spec = call.Tie.close (call.Tie.spec (search) (search) returns)

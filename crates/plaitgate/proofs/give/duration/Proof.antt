@@ -10,6 +10,6 @@ use Rattle.plaitgate.proofs.give.duration as call
 
 pub duration-spec : {M : Type 1} → call.Statement.statement M
 duration-spec =
-    call.Tie.close (call.Tie.spec (λ c. search needs) (λ c. search needs) (λ c κs. search)
+    call.Tie.close (call.Tie.spec (search needs) (search needs) (search)
     (λ c. gives-same (pos 0) (ap durationIn (sym (c .before .before .answer .given .1))) (refl, toZ-ofZ (record { sfits = omega arith })))
-    (λ c. search needs))
+    (search needs))

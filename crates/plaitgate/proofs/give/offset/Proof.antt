@@ -8,14 +8,9 @@ use Rattle.refusals.proofs.Given.{gives-same}
 use Rattle.tables.specs.Answers.{offsetIn}
 use Rattle.plaitgate.proofs.give.offset as call
 
+returns : call.Tie.Need-returns
+returns c =
+    gives-same (pos 0) (ap offsetIn (sym (c .before .answer .given .1))) (refl, toZ-ofZ (record { sfits = omega arith }))
+
 pub offset-spec : {M : Type 1} → call.Statement.statement M
-offset-spec =
-    call.Tie.close (call.Tie.spec (λ c. search needs) (λ c. search needs) (λ c κs. search)
-    (λ c. gives-same (pos 0) (ap offsetIn (sym (c .before .answer .given .1))) (
-      refl,
-      toZ-ofZ (record {
-        sfits =
-            omega arith;
-      }),
-    ))
-    (λ c. search needs))
+offset-spec = call.Tie.close (call.Tie.spec (search needs) (search needs) (search) returns (search needs))

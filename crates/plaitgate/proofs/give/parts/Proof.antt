@@ -8,6 +8,6 @@ use Rattle.plaitgate.proofs.give.parts as call
 
 pub parts-spec : {M : Type 1} → call.Statement.statement M
 parts-spec =
-    call.Tie.close (call.Tie.spec (λ c. search needs) (λ c. search needs) (λ c κs. search)
-    (λ c. gives-same (partsOf 0) (ap partsIn (sym (c .before .answer .given .1))) (refl, refl))
-    (λ c. gives-same (partsOf 0) (ap partsIn (sym (c .before .before .answer2 .given .1))) (c .number .ensures, refl)))
+    call.Tie.close (call.Tie.spec (search needs) (search needs) (search)
+    (λ c. gives-same (partsOf 0) (ap partsIn (sym (c .before .answer .given .1))) (refl, refl)) (λ c. gives-same
+    (partsOf 0) (ap partsIn (sym (c .before .before .answer2 .given .1))) (c .number .ensures, refl)))

@@ -8,14 +8,9 @@ use Rattle.refusals.proofs.Given.{gives-same}
 use Rattle.conversions.specs.Answers.{unixIn}
 use Rattle.plaitgate.proofs.give.unix as call
 
+returns : call.Tie.Need-returns
+returns c =
+    gives-same (pos 0) (ap unixIn (sym (c .before .answer .given .1))) (refl, toZ-ofZ (record { sfits = omega arith }))
+
 pub unix-spec : {M : Type 1} → call.Statement.statement M
-unix-spec =
-    call.Tie.close (call.Tie.spec (λ c. search needs) (λ c. search needs) (λ c κs. search)
-    (λ c. gives-same (pos 0) (ap unixIn (sym (c .before .answer .given .1))) (
-      refl,
-      toZ-ofZ (record {
-        sfits =
-            omega arith;
-      }),
-    ))
-    (λ c. search needs))
+unix-spec = call.Tie.close (call.Tie.spec (search needs) (search needs) (search) returns (search needs))

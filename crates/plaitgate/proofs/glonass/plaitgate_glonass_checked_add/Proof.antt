@@ -14,4 +14,4 @@ returns c =
     (c .glonass-count .ensures)
 
 pub plaitgate-glonass-checked-add-spec : {M : Type 1} → call.Statement.statement M
-plaitgate-glonass-checked-add-spec = call.Tie.close (call.Tie.spec (λ c κs. search) (λ c κs. search) returns)
+plaitgate-glonass-checked-add-spec = call.Tie.close (call.Tie.spec (search) (search) returns)

@@ -6,5 +6,5 @@ use Rattle.plaitgate.proofs.glonass.plaitgate_glonass_checked_elapsed a
 
 pub plaitgate-glonass-checked-elapsed-spec : {M : Type 1} → call.Statement.statement M
 plaitgate-glonass-checked-elapsed-spec =
-    call.Tie.close (call.Tie.spec (λ c κs. search) (λ c κs. search)
+    call.Tie.close (call.Tie.spec (search) (search)
     (λ c. gives-same (pos 0) (c .before .before .checked-elapsed .ensures) (c .duration .ensures)))

@@ -11,4 +11,4 @@ returns c =
     (refl, c .saturating-add .ensures ∙ ap (λ (z : ℤ). nearestCount (pos (c .before .args .count) +ℤ z)) (toZ-ofZ (c .before .fits .duration)))
 
 pub plaitgate-glonass-saturating-add-spec : {M : Type 1} → call.Statement.statement M
-plaitgate-glonass-saturating-add-spec = call.Tie.close (call.Tie.spec (λ c κs. search) returns)
+plaitgate-glonass-saturating-add-spec = call.Tie.close (call.Tie.spec (search) returns)

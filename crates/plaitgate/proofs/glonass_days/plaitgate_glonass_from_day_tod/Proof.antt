@@ -4,5 +4,5 @@ use Rattle.plaitgate.proofs.glonass_days.plaitgate_glonass_from_day_tod
 
 pub plaitgate-glonass-from-day-tod-spec : {M : Type 1} → call.Statement.statement M
 plaitgate-glonass-from-day-tod-spec =
-    call.Tie.close (call.Tie.spec (λ c κs. search) (λ c κs. search)
+    call.Tie.close (call.Tie.spec (search) (search)
     (λ c. gives-same 0 (c .before .before .from-day-tod .ensures) (c .glonass-count .ensures)))

@@ -14,4 +14,4 @@ returns c =
     (c .gps-count .ensures)
 
 pub plaitgate-gps-checked-add-spec : {M : Type 1} → call.Statement.statement M
-plaitgate-gps-checked-add-spec = call.Tie.close (call.Tie.spec (λ c κs. search) (λ c κs. search) returns)
+plaitgate-gps-checked-add-spec = call.Tie.close (call.Tie.spec (search) (search) returns)

@@ -4,5 +4,5 @@ use Rattle.plaitgate.proofs.gps_weeks.plaitgate_gps_from_tai as call
 
 pub plaitgate-gps-from-tai-spec : {M : Type 1} → call.Statement.statement M
 plaitgate-gps-from-tai-spec =
-    call.Tie.close (call.Tie.spec (λ c κs. search) (λ c κs. search)
+    call.Tie.close (call.Tie.spec (search) (search)
     (λ c. gives-same 0 (c .before .before .from-tai .ensures) (c .gps-count .ensures)))

@@ -4,5 +4,5 @@ use Rattle.plaitgate.proofs.gps_weeks.plaitgate_gps_from_week_tow as ca
 
 pub plaitgate-gps-from-week-tow-spec : {M : Type 1} → call.Statement.statement M
 plaitgate-gps-from-week-tow-spec =
-    call.Tie.close (call.Tie.spec (λ c κs. search) (λ c κs. search)
+    call.Tie.close (call.Tie.spec (search) (search)
     (λ c. gives-same 0 (c .before .before .from-week-tow .ensures) (c .gps-count .ensures)))

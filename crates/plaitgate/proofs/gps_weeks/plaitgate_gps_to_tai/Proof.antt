@@ -4,5 +4,5 @@ use Rattle.plaitgate.proofs.gps_weeks.plaitgate_gps_to_tai as call
 
 pub plaitgate-gps-to-tai-spec : {M : Type 1} → call.Statement.statement M
 plaitgate-gps-to-tai-spec =
-    call.Tie.close (call.Tie.spec (λ c κs. search) (λ c κs. search)
+    call.Tie.close (call.Tie.spec (search) (search)
     (λ c. gives-same 0 (c .before .before .to-tai .ensures) (c .tai-count .ensures)))

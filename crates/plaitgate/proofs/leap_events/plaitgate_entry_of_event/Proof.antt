@@ -27,4 +27,4 @@ returns c =
     (c .threshold .ensures)
 
 pub plaitgate-entry-of-event-spec : {M : Type 1} → call.Statement.statement M
-plaitgate-entry-of-event-spec = call.Tie.close (call.Tie.spec (λ c κs. search needs) (λ c κs. search needs) returns)
+plaitgate-entry-of-event-spec = call.Tie.close (call.Tie.spec (search needs) (search needs) returns)

@@ -7,5 +7,5 @@ use Rattle.plaitgate.proofs.leap_lists.plaitgate_list_is_empty as call
 
 pub plaitgate-list-is-empty-spec : {M : Type 1} → call.Statement.statement M
 plaitgate-list-is-empty-spec =
-    call.Tie.close (call.Tie.spec (λ c κs. search) (λ c κs. search)
+    call.Tie.close (call.Tie.spec (search) (search)
     (λ c. gives-same 0 (ap (changed bit) (c .before .before .is-empty .ensures)) (c .emptiness .ensures)))

@@ -5,5 +5,5 @@ use Rattle.plaitgate.proofs.leap_lists.plaitgate_list_tai_minus_utc_at 
 
 pub plaitgate-list-tai-minus-utc-at-spec : {M : Type 1} → call.Statement.statement M
 plaitgate-list-tai-minus-utc-at-spec =
-    call.Tie.close (call.Tie.spec (λ c κs. search) (λ c κs. search)
+    call.Tie.close (call.Tie.spec (search) (search)
     (λ c. gives-same (pos 0) (c .before .before .tai-minus-utc-at .ensures) (c .offset .ensures)))

@@ -5,5 +5,5 @@ use Rattle.plaitgate.proofs.leap_tables.plaitgate_table_current_tai_min
 
 pub plaitgate-table-current-tai-minus-utc-spec : {M : Type 1} → call.Statement.statement M
 plaitgate-table-current-tai-minus-utc-spec =
-    call.Tie.close (call.Tie.spec (λ c κs. search) (λ c κs. search)
+    call.Tie.close (call.Tie.spec (search) (search)
     (λ c. gives-same (pos 0) (c .before .before .current-tai-minus-utc .ensures) (c .offset .ensures)))

@@ -11,4 +11,4 @@ returns c =
     gives-same (foundEntry none) (ap (changed foundEntry) (c .before .before .before .before .entry-at .ensures)) (c .entry .ensures)
 
 pub plaitgate-table-entry-at-spec : {M : Type 1} → call.Statement.statement M
-plaitgate-table-entry-at-spec = call.Tie.close (call.Tie.spec (λ c κs. search) (λ c κs. search) returns)
+plaitgate-table-entry-at-spec = call.Tie.close (call.Tie.spec (search) (search) returns)

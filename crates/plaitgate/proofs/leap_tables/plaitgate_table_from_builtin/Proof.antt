@@ -15,10 +15,4 @@ returns c =
 
 pub plaitgate-table-from-builtin-spec : {M : Type 1} → call.Statement.statement M
 plaitgate-table-from-builtin-spec =
-    call.Tie.close
-    (call.Tie.spec
-    (λ c κs. search needs)
-    (λ c κs. search needs)
-    (λ c κs. search needs)
-    (λ c. search needs)
-    returns)
+    call.Tie.close (call.Tie.spec (search needs) (search needs) (search needs) (search needs) returns)

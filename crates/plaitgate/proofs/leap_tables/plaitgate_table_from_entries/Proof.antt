@@ -31,15 +31,5 @@ returns-2 c =
 
 pub plaitgate-table-from-entries-spec : {M : Type 1} → call.Statement.statement M
 plaitgate-table-from-entries-spec =
-    call.Tie.close
-    (call.Tie.spec
-    (λ c κs. search needs)
-    (λ c κs. search needs)
-    (λ c. search needs)
-    (λ c κs. search needs)
-    (λ c. search needs)
-    returns
-    (λ c. search needs)
-    (λ c κs. search needs)
-    (λ c. search needs)
-    returns-2)
+    call.Tie.close (call.Tie.spec (search needs) (search needs) (search needs) (search needs) (search needs) returns
+    (search needs) (search needs) (search needs) returns-2)

@@ -7,5 +7,5 @@ use Rattle.plaitgate.proofs.leap_tables.plaitgate_table_is_empty as cal
 
 pub plaitgate-table-is-empty-spec : {M : Type 1} → call.Statement.statement M
 plaitgate-table-is-empty-spec =
-    call.Tie.close (call.Tie.spec (λ c κs. search) (λ c κs. search)
+    call.Tie.close (call.Tie.spec (search) (search)
     (λ c. gives-same 0 (ap (changed bit) (c .before .before .is-empty .ensures)) (c .emptiness .ensures)))

@@ -15,10 +15,4 @@ returns c =
 
 pub plaitgate-table-new-spec : {M : Type 1} → call.Statement.statement M
 plaitgate-table-new-spec =
-    call.Tie.close
-    (call.Tie.spec
-    (λ c κs. search needs)
-    (λ c κs. search needs)
-    (λ c κs. search needs)
-    (λ c. search needs)
-    returns)
+    call.Tie.close (call.Tie.spec (search needs) (search needs) (search needs) (search needs) returns)

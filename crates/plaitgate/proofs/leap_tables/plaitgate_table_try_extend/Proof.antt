@@ -18,10 +18,4 @@ returns c =
     ∙ ap (λ (z : ℤ). imageExtended (start .args .image .now) (entry (start .args .«tai-nanos») z)) (toZ-ofZ (start .fits .«tai-minus-utc»))
 
 pub plaitgate-table-try-extend-spec : {M : Type 1} → call.Statement.statement M
-plaitgate-table-try-extend-spec =
-    call.Tie.close
-    (call.Tie.spec
-    (λ c κs. search needs)
-    (λ c κs. search needs)
-    (λ c. search needs)
-    returns)
+plaitgate-table-try-extend-spec = call.Tie.close (call.Tie.spec (search needs) (search needs) (search needs) returns)

@@ -6,5 +6,5 @@ use Rattle.plaitgate.proofs.utc.plaitgate_utc_checked_elapsed as call
 
 pub plaitgate-utc-checked-elapsed-spec : {M : Type 1} → call.Statement.statement M
 plaitgate-utc-checked-elapsed-spec =
-    call.Tie.close (call.Tie.spec (λ c κs. search) (λ c κs. search)
+    call.Tie.close (call.Tie.spec (search) (search)
     (λ c. gives-same (pos 0) (c .before .before .checked-elapsed .ensures) (c .duration .ensures)))

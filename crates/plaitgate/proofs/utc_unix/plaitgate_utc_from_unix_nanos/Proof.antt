@@ -15,4 +15,4 @@ returns c =
     (c .utc-count .ensures)
 
 pub plaitgate-utc-from-unix-nanos-spec : {M : Type 1} → call.Statement.statement M
-plaitgate-utc-from-unix-nanos-spec = call.Tie.close (call.Tie.spec (λ c κs. search) (λ c κs. search) returns)
+plaitgate-utc-from-unix-nanos-spec = call.Tie.close (call.Tie.spec (search) (search) returns)

@@ -11,18 +11,5 @@ abbrev μ-loop : call.Tie.MeasureT-loop
 
 pub full-spec : {M : Type 1} → call.Statement.statement M
 full-spec =
-    call.Tie.close
-    (call.Tie.spec
-    Inv-loop
-    μ-loop
-    (λ c κs. search needs)
-    (λ c. search needs)
-    (λ c. search needs)
-    (λ c. search needs)
-    (λ c. search needs)
-    (λ c κs. search needs)
-    (λ c κs. search needs)
-    (λ c. search needs)
-    (λ c. search needs)
-    (λ c. search needs)
-    (λ c. search needs))
+    call.Tie.close (call.Tie.spec Inv-loop μ-loop (search needs) (search needs) (search needs) (search needs)
+    (search needs) (search needs) (search needs) (search needs) (search needs) (search needs) (search needs))

@@ -20,4 +20,4 @@ sub-result : call.Tie.Need-sub-result
 sub-result c = taken-fits (c .before .before .args .size) (omega arith)
 
 pub before-zero-spec : {M : Type 1} → call.Statement.statement M
-before-zero-spec = call.Tie.close (call.Tie.spec (λ c. search needs) (λ c. search needs) (λ c. search needs) sub-result (λ c. search needs))
+before-zero-spec = call.Tie.close (call.Tie.spec (search needs) (search needs) (search needs) sub-result (search needs))

@@ -7,4 +7,4 @@ cast-result : call.Tie.Need-cast-result
 cast-result c = widens tt (c .fits .year)
 
 pub wide-spec : {M : Type 1} → call.Statement.statement M
-wide-spec = call.Tie.close (call.Tie.spec cast-result (λ c. search needs))
+wide-spec = call.Tie.close (call.Tie.spec cast-result (search needs))

@@ -24,5 +24,5 @@ returns-4 c = sym (ap leapSecondsAt (c .enum-told4 .given .1))
 
 pub leap-seconds-spec : {M : Type 1} → call.Statement.statement M
 leap-seconds-spec =
-    call.Tie.close
-    (call.Tie.spec (λ c. search needs) (λ c. search needs) (λ c. search needs) (λ c. search needs) returns returns-2 returns-3 returns-4)
+    call.Tie.close (call.Tie.spec (search needs) (search needs) (search needs) (search needs) returns returns-2
+    returns-3 returns-4)

@@ -20,11 +20,4 @@ returns-2 c = sym (stops (utcToGps builtin) (ap countIn (c .before .utc2 .given 
 
 pub gps-from-utc-spec : {M : Type 1} → call.Statement.statement M
 gps-from-utc-spec =
-    call.Tie.close
-    (call.Tie.spec
-    (λ c. search needs)
-    (λ c κs. search needs)
-    (λ c κs. search needs)
-    (λ c. search needs)
-    returns
-    returns-2)
+    call.Tie.close (call.Tie.spec (search needs) (search needs) (search needs) (search needs) returns returns-2)

@@ -8,4 +8,4 @@ unfolding pastFrom1994
 returns c = c .reached-of-nine .ensures
 
 pub past-from-1994-spec : {M : Type 1} → call.Statement.statement M
-past-from-1994-spec = call.Tie.close (call.Tie.spec (λ c κs. search needs) returns)
+past-from-1994-spec = call.Tie.close (call.Tie.spec (search needs) returns)

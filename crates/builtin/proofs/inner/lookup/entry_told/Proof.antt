@@ -12,4 +12,4 @@ returns : call.Tie.Need-returns
 returns c = ap (λ (z : ℤ). telling (entry 0 z)) (toZ-pos w32 (omega arith))
 
 pub entry-told-spec : {M : Type 1} → call.Statement.statement M
-entry-told-spec = call.Tie.close (call.Tie.spec (λ c. search needs) (λ c. search needs) returns)
+entry-told-spec = call.Tie.close (call.Tie.spec (search needs) (search needs) returns)

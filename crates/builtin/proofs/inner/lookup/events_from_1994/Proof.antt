@@ -8,4 +8,4 @@ unfolding eventsFrom1994
 returns c = c .reached-of-nine .ensures
 
 pub events-from-1994-spec : {M : Type 1} → call.Statement.statement M
-events-from-1994-spec = call.Tie.close (call.Tie.spec (λ c κs. search needs) returns)
+events-from-1994-spec = call.Tie.close (call.Tie.spec (search needs) returns)

@@ -43,14 +43,5 @@ returns-2 c =
 
 pub gps-from-utc-spec : {M : Type 1} → call.Statement.statement M
 gps-from-utc-spec =
-    call.Tie.close
-    (call.Tie.spec
-    (λ c κs. search needs)
-    (λ c κs. search needs)
-    (λ c. search needs)
-    (λ c κs. search needs)
-    look-up-requires
-    (λ c κs. search needs)
-    (λ c. search needs)
-    returns
-    returns-2)
+    call.Tie.close (call.Tie.spec (search needs) (search needs) (search needs) (search needs) look-up-requires
+    (search needs) (search needs) returns returns-2)

@@ -16,5 +16,4 @@ returns-2 c =
     sym (stops (down (c .before .before .before .args .difference)) (ap countIn (c .before .answer2 .given .1)))
 
 pub down-spec : {M : Type 1} → call.Statement.statement M
-down-spec =
-    call.Tie.close (call.Tie.spec (λ c. search needs) (λ c κs. search needs) (λ c. search needs) returns returns-2)
+down-spec = call.Tie.close (call.Tie.spec (search needs) (search needs) (search needs) returns returns-2)

@@ -23,5 +23,4 @@ returns-2 : call.Tie.Need-returns-2
 returns-2 c = sym (ap told (c .before .utc2 .given .1))
 
 pub unix-from-utc-spec : {M : Type 1} → call.Statement.statement M
-unix-from-utc-spec =
-    call.Tie.close (call.Tie.spec (λ c. search needs) (λ c κs. search needs) (λ c. search needs) returns returns-2)
+unix-from-utc-spec = call.Tie.close (call.Tie.spec (search needs) (search needs) (search needs) returns returns-2)

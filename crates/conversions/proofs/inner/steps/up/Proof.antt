@@ -15,5 +15,4 @@ returns-2 : call.Tie.Need-returns-2
 returns-2 c = sym (stops (up (c .before .before .before .args .difference)) (ap countIn (c .before .answer2 .given .1)))
 
 pub up-spec : {M : Type 1} → call.Statement.statement M
-up-spec =
-    call.Tie.close (call.Tie.spec (λ c. search needs) (λ c κs. search needs) (λ c. search needs) returns returns-2)
+up-spec = call.Tie.close (call.Tie.spec (search needs) (search needs) (search needs) returns returns-2)

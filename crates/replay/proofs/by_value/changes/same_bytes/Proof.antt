@@ -11,15 +11,5 @@ abbrev μ-loop : call.Tie.MeasureT-loop
 
 pub same-bytes-spec : {M : Type 1} → call.Statement.statement M
 same-bytes-spec =
-    call.Tie.close
-    (call.Tie.spec
-    Inv-loop
-    μ-loop
-    (λ c. search needs)
-    (λ c. search needs)
-    (λ c. search needs)
-    (λ c. search needs)
-    (λ c. search needs)
-    (λ c. search needs)
-    (λ c. search needs)
-    (λ c. search needs))
+    call.Tie.close (call.Tie.spec Inv-loop μ-loop (search needs) (search needs) (search needs) (search needs)
+    (search needs) (search needs) (search needs) (search needs))

@@ -5,4 +5,4 @@ returns : call.Tie.Need-returns
 returns c = cc
 
 pub is-weekend-spec : {M : Type 1} → call.Statement.statement M
-is-weekend-spec = call.Tie.close (call.Tie.spec (λ c κs. search) returns)
+is-weekend-spec = call.Tie.close (call.Tie.spec (search) returns)

@@ -6,4 +6,4 @@ returns : call.Tie.Need-returns
 returns c = c .of .ensures ∙ c .before .plus .ensures
 
 pub to-tai-spec : {M : Type 1} → call.Statement.statement M
-to-tai-spec = call.Tie.close (call.Tie.spec (λ c κs. search) (λ c κs. search) returns)
+to-tai-spec = call.Tie.close (call.Tie.spec (search) (search) returns)

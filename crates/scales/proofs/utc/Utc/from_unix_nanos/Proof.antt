@@ -13,4 +13,4 @@ returns c =
     ∙ ap (λ (z : ℤ). countOf (z -ℤ pos (unixOffset * second))) (toZ-ofZ (c .before .before .fits .nanos))
 
 pub from-unix-nanos-spec : {M : Type 1} → call.Statement.statement M
-from-unix-nanos-spec = call.Tie.close (call.Tie.spec (λ c κs. search) (λ c κs. search) returns)
+from-unix-nanos-spec = call.Tie.close (call.Tie.spec (search) (search) returns)

@@ -13,4 +13,4 @@ returns c =
     ∙ ap (λ (z : ℤ). countOf ((z -ℤ pos unixOffset) *ℤ pos second)) (toZ-ofZ (c .before .before .fits .seconds))
 
 pub from-unix-seconds-spec : {M : Type 1} → call.Statement.statement M
-from-unix-seconds-spec = call.Tie.close (call.Tie.spec (λ c κs. search) (λ c κs. search) returns)
+from-unix-seconds-spec = call.Tie.close (call.Tie.spec (search) (search) returns)
