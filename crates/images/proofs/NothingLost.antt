@@ -3,7 +3,7 @@ use mathlib.Core.Path.{_≡_, sym, ap, _∙_}
 use mathlib.Core.List.{List, [], _++_, map, append-assoc, append-nil}
 use Prim.Native.Nat.{ℕ, _^_, _<_}
 use native.Mathlib.Omega.{arith}
-use lib.ListN.{length, getD, take, drop, length-append, length-drop, length-map, List·getD-map}
+use lib.ListN.{length, getD, take, drop, length-drop, length-map, List·getD-map}
 use lib.Seq.{take-at, drop-at, take-add, take-all}
 use lib.IntN.{pos}
 use mir.Syntax.{w32}
@@ -11,7 +11,7 @@ use mir.Val.{Fits, SFits, toZ, ofZ}
 use mir.Facts.{toZ-ofZ, ofZ-toZ, fits-ofZ}
 use Rattle.tables.specs.declared.LeapTable.{LeapTable}
 use Rattle.tables.proofs.Extensions.{Sized}
-use Rattle.words.specs.Words.{numberIn, bytesOf}
+use Rattle.words.specs.Words.{numberIn}
 use Rattle.words.proofs.Bytes.{bytes-count}
 use Rattle.words.proofs.Inverses.{Below, below-drop, number-of-bytes, bytes-of-part}
 use Rattle.images.specs.Image.{numbersIn, bytesOfAll, imageBytes, tableIn, imageOf}

@@ -2,9 +2,7 @@
 use mathlib.Core.Path.{sym, _∙_}
 use denote.Ref.{now}
 use Rattle.counts.specs.Answers.{countIn}
-use Rattle.tables.specs.Slots.{entriesOf}
 use Rattle.conversions.proofs.ByLookup.{utc-from-store}
-use Rattle.images.specs.Image.{tableIn}
 use Rattle.images.proofs.Held.{holds, one-test}
 use borrow.Author.Needs.{needs}
 use Rattle.images.proofs.table.utc_from_gps as call
@@ -16,7 +14,8 @@ returns c =
     let a = tai .before .before .args in
     let b = now (a .image) in
     c .utc-from-lookup .ensures
-    ∙ utc-from-store (holds b) (entriesOf (tableIn b)) (countIn (a .gps)) (tai .tai-of .ensures) (read .reading-of .ensures) (c .before .checked-look-up .ensures ∙ one-test b _)
+    ∙ utc-from-store (holds b) _ (countIn (a .gps)) (tai .tai-of .ensures) (read .reading-of .ensures)
+    (c .before .checked-look-up .ensures ∙ one-test b _)
     ∙ sym (one-test b _)
 
 pub utc-from-gps-spec : {M : Type 1} → call.Statement.statement M

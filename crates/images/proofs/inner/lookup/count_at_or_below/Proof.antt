@@ -1,8 +1,7 @@
 -- `inner::lookup::count_at_or_below` counts the thresholds at or below the reading: the halves meet where they part.
-use Prim.Native.Nat.{_+_, _-_, _/_}
+use Prim.Native.Nat.{_-_}
 use native.Mathlib.Omega.{arith}
 use borrow.Author.Needs.{needs}
-use denote.Ref.{now}
 use Rattle.tables.proofs.Halving.{Halves, whole, met, up, down}
 use Rattle.images.specs.Image.{tableIn}
 use Rattle.images.proofs.inner.lookup.count_at_or_below as call
@@ -14,31 +13,22 @@ abbrev μ-loop : call.Tie.MeasureT-loop
 μ-loop image n tai low₀ high₀ low high = high - low
 
 loop-holds : call.Tie.Need-loop-holds Inv-loop μ-loop
-loop-holds c =
-    let a = c .before .args in
-    whole (tableIn (now (a .image)) .thresholds) (a .n) (a .tai)
+loop-holds c = whole _ _ _
 
 loop-again : call.Tie.Need-loop-again Inv-loop μ-loop
 loop-again c =
     let at = c .before .before .before in
-    let a = at .before .before .args in
-    let xs = tableIn (now (a .image)) .thresholds in
-    up xs (a .n) (a .tai) (at .before .before .pre .1 .1) (at .loop .low) (at .loop .high)
-    (at .loop .low + (at .loop .high - at .loop .low) / 2) (at .loop .inv) (omega arith) (omega arith) (omega (arith, c .before .threshold .ensures))
+    up _ _ _ (at .before .before .pre .1 .1) _ _ _ (at .loop .inv) (omega arith) (omega arith)
+    (omega (arith, c .before .threshold .ensures))
 
 loop-again-2 : call.Tie.Need-loop-again-2 Inv-loop μ-loop
 loop-again-2 c =
     let at = c .before .before .before in
-    let a = at .before .before .args in
-    let xs = tableIn (now (a .image)) .thresholds in
-    down xs (a .n) (a .tai) (at .before .before .pre .1 .1) (at .loop .low) (at .loop .high)
-    (at .loop .low + (at .loop .high - at .loop .low) / 2) (at .loop .inv) (omega arith) (omega arith) (omega (arith, c .before .threshold .ensures))
+    down _ _ _ (at .before .before .pre .1 .1) _ _ _ (at .loop .inv) (omega arith) (omega arith)
+    (omega (arith, c .before .threshold .ensures))
 
 returns : call.Tie.Need-returns Inv-loop μ-loop
-returns c =
-    let at = c .before in
-    let a = at .before .before .args in
-    met (tableIn (now (a .image)) .thresholds) (a .n) (a .tai) (at .loop .low) (at .loop .high) (at .loop .inv) (c .loop-test .left)
+returns c = met _ _ _ _ _ (c .before .loop .inv) (c .loop-test .left)
 
 pub count-at-or-below-spec : {M : Type 1} → call.Statement.statement M
 count-at-or-below-spec =

@@ -10,11 +10,13 @@ use Rattle.images.proofs.inner.lookup.is_valid as call
 returns : call.Tie.Need-returns
 returns c =
     let b = now (c .before .before .before .before .args .image) in
-    sym (told-valid _ (holds b) (sym (ap lookupIn (c .enum-told .given .1)) ∙ c .before .before .checked-look-up .ensures ∙ one-test b _))
+    let found = sym (ap lookupIn (c .enum-told .given .1)) ∙ c .before .before .checked-look-up .ensures in
+    sym (told-valid _ (holds b) (found ∙ one-test b _))
 
 returns-2 : call.Tie.Need-returns-2
 returns-2 c =
-    told-none (now (c .before .before .before .before .args .image)) _ (sym (ap lookupIn (c .enum-told2 .given .1)) ∙ c .before .before .checked-look-up .ensures)
+    let b = now (c .before .before .before .before .args .image) in
+    told-none b _ (sym (ap lookupIn (c .enum-told2 .given .1)) ∙ c .before .before .checked-look-up .ensures)
 
 pub is-valid-spec : {M : Type 1} → call.Statement.statement M
 is-valid-spec =
