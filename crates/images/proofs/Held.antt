@@ -12,7 +12,7 @@ use Rattle.tables.specs.Slots.{entriesOf, validTable}
 use Rattle.tables.proofs.Checked.{Checked, checked, eight-first, eight-changed}
 use Rattle.tables.proofs.Neighbours.{both}
 use Rattle.images.specs.Image.{sized, tableIn, byImage}
-use Rattle.images.proofs.InSlots.{thresholds-count, offsets-count}
+use Rattle.images.proofs.InSlots.{table-sized}
 
 module _ (b : List ℕ) where
   abbrev pub holds : Bool
@@ -30,11 +30,12 @@ module _ (b : List ℕ) where
   pub held : {v : Bool} → v ≡ holds → v ≡ true → Held
   held e t =
       let passes = sym e ∙ t in
+      let s = table-sized b in
       let h = both (sized b) (validTable (tableIn b)) passes in
       record {
         passes = passes;
         size = eqb-true (length b) 776 (h .0);
-        table = checked (tableIn b) (thresholds-count b) (offsets-count b) (h .1);
+        table = checked (tableIn b) (s .thresholds) (s .offsets) (h .1);
       }
 
   -- the size and the table are one test

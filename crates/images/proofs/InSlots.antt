@@ -9,6 +9,7 @@ use lib.Seq.{drop-drop}
 use lib.IntN.{pos}
 use mir.Syntax.{w32}
 use mir.Val.{toZ}
+use Rattle.tables.proofs.Extensions.{Sized}
 use Rattle.words.specs.Words.{numberIn}
 use Rattle.images.specs.Image.{numbersIn, tableIn}
 use Rattle.images.proofs.Fields.{strides}
@@ -35,13 +36,12 @@ module _ (b : List ℕ) where
   unfolding tableIn
   length-is = refl
 
-  pub thresholds-count : length (tableIn b .thresholds) ≡ 64
+  pub table-sized : Sized (tableIn b)
   unfolding tableIn
-  thresholds-count = numbers-count 8 8 64 (drop 8 b)
-
-  pub offsets-count : length (tableIn b .offsets) ≡ 64
-  unfolding tableIn
-  offsets-count = length-map (numbersIn 4 4 64 (drop 520 b)) (toZ w32) ∙ numbers-count 4 4 64 (drop 520 b)
+  table-sized = record {
+    thresholds = numbers-count 8 8 64 (drop 8 b);
+    offsets = length-map (numbersIn 4 4 64 (drop 520 b)) (toZ w32) ∙ numbers-count 4 4 64 (drop 520 b);
+  }
 
   module _ (i : ℕ) (h : i < 64) where
     pub threshold-is : numberIn (take 8 (drop (8 + 8 * i) b)) ≡ getD (tableIn b .thresholds) i 0

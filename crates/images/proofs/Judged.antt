@@ -18,7 +18,7 @@ use Rattle.tables.proofs.Neighbours.{passes-valid}
 use Rattle.tables.proofs.Scanned.{invalid-at}
 use Rattle.images.specs.Image.{tableIn, byImage}
 use Rattle.images.proofs.Held.{by-entries, held, refuses, answers}
-use Rattle.images.proofs.InSlots.{thresholds-count, offsets-count}
+use Rattle.images.proofs.InSlots.{table-sized}
 
 -- what is told of a place among n slots is what a lookup tells, where the entry there is in force
 pub told-is : (xs : List ℕ) (zs : List ℤ) (n : ℕ) → n ≤ length xs → n ≤ length zs → (t k : ℕ) {place : ℕ}
@@ -40,6 +40,10 @@ module _ (b : List ℕ) where
   abbrev pub firstSlots : ℕ → List Entry
   firstSlots n = slots (tableIn b .thresholds) (tableIn b .offsets) n
 
+  -- what is told of a place among n slots
+  abbrev pub toldAt : ℕ → ℕ → Lookup
+  toldAt n place = cond (eqb n 0) (lookup [] 0) (telling (slot place))
+
   -- the bytes of an image, with a table that says it has n entries, at most 64
   pub record Opened (n : ℕ) : Type 0 where
     pub size : length b ≡ 776
@@ -56,18 +60,16 @@ module _ {b : List ℕ} {n : ℕ} (o : Opened b n) (tai : ℕ) where
   -- a slot that does not follow the one before
   pub not-valid : (i : ℕ) → 1 ≤ i → i < n → follows (slot b (i - 1)) (slot b i) ≡ false → refused 8 ≡ answer b tai
   not-valid i s l f =
-      let h = thresholds-count b in
-      let h′ = offsets-count b in
-      refuses b _ (by-entries b (o .size) few) (invalid-at _ _ i (tableIn b .len) s (omega arith) (omega arith) (omega arith) f)
+      let h = table-sized b in
+      refuses b _ (by-entries b (o .size) few)
+      (invalid-at _ _ i (tableIn b .len) s (omega arith) (omega arith) (omega arith) f)
 
   -- the first i slots are all n, none is refused, and the entry in force is at a place
   pub tells : {i place : ℕ} {found : Lookup} (k : ℕ) → i ≡ n → firstRefusal (firstSlots b i) ≡ 0
-      → AtOrBelow (thresholds b) i tai k → place ≡ k - 1
-      → found ≡ cond (eqb n 0) (lookup [] 0) (telling (slot b place))
+      → AtOrBelow (thresholds b) i tai k → place ≡ k - 1 → found ≡ toldAt b n place
       → answered found ≡ answer b tai
   tells k e z p q f =
-      let h = thresholds-count b in
-      let h′ = offsets-count b in
+      let h = table-sized b in
       let all = e ∙ o .len in
       answers (held b (by-entries b (o .size) few) (passes-valid _ (rw all at z)))
       (f ∙ rw (o .len) (told-is _ _ _ (omega arith) (omega arith) tai k (rw all at p) q))

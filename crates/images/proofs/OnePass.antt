@@ -1,14 +1,13 @@
 -- One pass over the slots: after the first i, of which none is refused, it knows the last threshold, the offset that has
 -- to come next, and the place of the entry in force among them.
 use mathlib.Core.Path.{_≡_, refl, sym, ap, _∙_}
-use mathlib.Core.Bool.{true, cond}
-use mathlib.Core.List.{List, []}
+use mathlib.Core.Bool.{true}
+use mathlib.Core.List.{List}
 use Prim.Native.Nat.{ℕ, zero, suc, _+_, _-_, _≤_, _<_}
 use native.Mathlib.Omega.{arith}
 use native.Mathlib.Decide.{decLe, decLt}
 use native.Mathlib.Numerals.{add-one}
 use borrow.Author.Tests.{lt-ltb, le-ltb, eqb-true}
-use lib.Dec.{eqb}
 use lib.ListN.{getD}
 use lib.IntN.{ℤ, pos, negsuc, _+ℤ_}
 use mir.Syntax.{w32, w64}
@@ -16,7 +15,7 @@ use mir.Val.{SFits, toZ, ofZ}
 use mir.Facts.{toZ-ofZ, sfits-widen}
 use Rattle.refusals.specs.Outcome.{answered, refused}
 use Rattle.counts.proofs.Signed.{bits-tell}
-use Rattle.tables.specs.Entries.{threshold, offset, follows, telling, lookup, firstRefusal}
+use Rattle.tables.specs.Entries.{threshold, offset, follows, firstRefusal}
 use Rattle.tables.specs.Search.{Rises, AtOrBelow}
 use Rattle.tables.specs.Slots.{paired}
 use Rattle.tables.specs.declared.Lookup.{Lookup}
@@ -26,8 +25,8 @@ use Rattle.tables.proofs.Integers.{equal-yes, equal-no}
 use Rattle.tables.proofs.Neighbours.{passes-valid, step-follows}
 use Rattle.tables.proofs.Scanned.{one-passes, next-refusal}
 use Rattle.images.specs.Image.{tableIn}
-use Rattle.images.proofs.InSlots.{thresholds-count, offsets-count}
-use Rattle.images.proofs.Judged.{thresholds, slot, firstSlots, Opened, answer, not-valid, tells}
+use Rattle.images.proofs.InSlots.{table-sized}
+use Rattle.images.proofs.Judged.{thresholds, slot, firstSlots, Opened, toldAt, answer, not-valid, tells}
 
 -- the count of thresholds at or below t, from none and one threshold on
 module _ (xs : List ℕ) (t : ℕ) where
@@ -73,9 +72,8 @@ module _ (b : List ℕ) (t n : ℕ) where
 
 module _ {b : List ℕ} {n : ℕ} (o : Opened b n) (t : ℕ) where
   -- slot i, where the slots to it are refused nowhere
-  step : (i k place : ℕ) → i < n → SFits w32 (offset (slot b i))
-      → firstRefusal (firstSlots b (suc i)) ≡ 0 → AtOrBelow (thresholds b) i t k → place ≡ k - 1
-      → Step b t n i place (offset (slot b i))
+  step : (i k place : ℕ) → i < n → SFits w32 (offset (slot b i)) → firstRefusal (firstSlots b (suc i)) ≡ 0
+      → AtOrBelow (thresholds b) i t k → place ≡ k - 1 → Step b t n i place (offset (slot b i))
   step i k place l f z c e = record {
     room = more-fits _ f;
     at-or-below = λ q. on (i + 1) i (all-reached (thresholds b) t i rising q) (omega arith);
@@ -86,7 +84,7 @@ module _ {b : List ℕ} {n : ℕ} (o : Opened b n) (t : ℕ) where
       passed = rw add-one z
 
       rising : Rises (thresholds b) (i + 1)
-      rising = rises _ _ _ (omega (arith, thresholds-count b)) (omega (arith, offsets-count b)) (passes-valid _ passed)
+      rising = let s = table-sized b in rises _ _ _ (omega arith) (omega arith) (passes-valid _ passed)
 
       on : (m at : ℕ) → AtOrBelow (thresholds b) (i + 1) t m → at ≡ m - 1
           → Pass b t n (i + 1) (threshold (slot b i)) (ofZ w64 (offset (slot b i) +ℤ pos 1)) at
@@ -118,16 +116,13 @@ module _ {b : List ℕ} {n : ℕ} (o : Opened b n) (t : ℕ) where
       by-order (no q) = first .above (omega (arith, q))
 
   -- there is no slot
-  pub none-told : {found : Lookup} → n ≡ 0
-      → found ≡ cond (eqb n 0) (lookup [] 0) (telling (slot b 0)) → answered found ≡ answer b t
+  pub none-told : {found : Lookup} → n ≡ 0 → found ≡ toldAt b n 0 → answered found ≡ answer b t
   unfolding firstRefusal
   none-told e f = tells o t 0 (sym e) refl (none-reached (thresholds b) t) refl f
 
 module _ {b : List ℕ} {t n i before one-more place : ℕ} (p : Pass b t n i before one-more place) where
   -- all slots are passed
-  pub told : {found : Lookup} → n ≤ i
-      → found ≡ cond (eqb n 0) (lookup [] 0) (telling (slot b place))
-      → answered found ≡ answer b t
+  pub told : {found : Lookup} → n ≤ i → found ≡ toldAt b n place → answered found ≡ answer b t
   told l f = tells (p .opened) t (p .reached) (omega arith) (p .passes) (p .counted) (p .in-force) f
 
   module _ (l : i < n) where
@@ -150,9 +145,10 @@ module _ {b : List ℕ} {t n i before one-more place : ℕ} (p : Pass b t n i be
       pub further : SFits w32 (offset (slot b i)) → ofZ w64 (offset (slot b i)) ≡ one-more
           → Step b t n i place (toZ w64 one-more)
       further f e =
+          let s = table-sized b in
           let one = bits-tell (sfits-widen tt f) (more-fits _ (p .fits)) (e ∙ p .next) in
           let on : follows (slot b (i - 1)) (slot b i) ≡ true = rw (lt-ltb _ _ above, equal-yes _ _ one) in
-          let passed = next-refusal _ _ i (p .some) (omega (arith, thresholds-count b)) (omega (arith, offsets-count b)) (p .passes)
+          let passed = next-refusal _ _ i (p .some) (omega arith) (omega arith) (p .passes)
           ∙ eqb-true _ 0 (step-follows (slot b (i - 1)) (slot b i) f ∙ on) in
           let read : toZ w64 one-more ≡ offset (slot b i) = ap (toZ w64) (sym e) ∙ toZ-ofZ (sfits-widen tt f) in
           rw read (step (p .opened) t i (p .reached) place l f passed (p .counted) (p .in-force))

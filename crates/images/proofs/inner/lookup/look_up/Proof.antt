@@ -6,15 +6,15 @@ use denote.Ref.{now}
 use Rattle.tables.proofs.Checked.{Checked, checked}
 use Rattle.tables.proofs.InForce.{rises}
 use Rattle.images.specs.Image.{tableIn}
-use Rattle.images.proofs.InSlots.{thresholds-count, offsets-count}
+use Rattle.images.proofs.InSlots.{table-sized}
 use Rattle.images.proofs.Judged.{told-is}
 use borrow.Author.Needs.{needs}
 use Rattle.images.proofs.inner.lookup.look_up as call
 
 known : (c : call.Tie.Start) → Checked (tableIn (now (c .args .image)))
 known c =
-    let b = now (c .args .image) in
-    checked (tableIn b) (thresholds-count b) (offsets-count b) (c .pre .1)
+    let s = table-sized (now (c .args .image)) in
+    checked _ (s .thresholds) (s .offsets) (c .pre .1)
 
 count-at-or-below-requires : call.Tie.Need-count-at-or-below-requires
 count-at-or-below-requires c κs =
