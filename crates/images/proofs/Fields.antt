@@ -41,7 +41,8 @@ module _ {A : Type 0} {f : ℕ → A} {k stride start : ℕ} {b : List ℕ} {kep
       let next = ap (λ (l : List ℕ). numberIn (take k l)) (drop-drop (stride * i) start b) in
       record {
         size = simp length-set (h .size);
-        first = rw (add-one, take-suc-set kept i v within, field-more k stride i (drop start b), map-append, h .first, g, next);
+        first = rw (add-one, take-suc-set kept i v within, field-more k stride i (drop start b), map-append)
+            (rw (h .first, g, next));
       }
 
 pub all-bytes-count : (k : ℕ) (ns : List ℕ) → length (bytesOfAll k ns) ≡ k * length ns
@@ -56,7 +57,9 @@ pub field-written : (out ns : List ℕ) (k start i v : ℕ) → i < length ns �
     ≡ sets out (start + k * i) (bytesOfAll k (drop i ns))
 unfolding bytesOfAll
 field-written out ns k start i v h e =
-    joined out _ _ (bytesOf k v) (bytesOfAll k (drop (i + 1) ns)) refl (rw (add-one, mul-suc, bytes-count) (omega arith)) refl
+    let further : start + k * (i + 1) ≡ start + k * i + length (bytesOf k v)
+    = rw (add-one, mul-suc, bytes-count) (omega arith) in
+    joined out _ _ (bytesOf k v) (bytesOfAll k (drop (i + 1) ns)) refl further refl
     ∙ rw (add-one, drop-cons ns i 0 h, e)
 
 pub all-fields-written : (out ns : List ℕ) (k at i : ℕ) → i ≡ length ns → sets out at (bytesOfAll k (drop i ns)) ≡ out

@@ -1,5 +1,5 @@
 -- Numbers of one width to bytes and back, and bytes to numbers and back.
-use mathlib.Core.Path.{_≡_, refl, sym, ap, _∙_}
+use mathlib.Core.Path.{_≡_, refl, _∙_}
 use mathlib.Core.List.{List, [], _∷_, _++_, map, append-assoc}
 use Prim.Native.Nat.{ℕ, zero, suc, _+_, _*_, _^_, _≤_}
 use native.Mathlib.Nat.{mul-zero, mul-suc, pow-le-pow-right}
@@ -23,19 +23,18 @@ pub numbers-of-bytes : (k : ℕ) (ns rest : List ℕ) → Below (256 ^ k) ns
 unfolding numbersIn bytesOfAll
 numbers-of-bytes k [] rest h = refl
 numbers-of-bytes k (n ∷ ns) rest h =
-    let others = bytesOfAll k ns ++ rest in
-    rw (append-assoc (bytesOf k n) (bytesOfAll k ns) rest, take-at (bytesOf k n) others k (bytes-count k n), drop-at (bytesOf k n) others k (bytes-count k n), number-of-bytes k n (h 0), numbers-of-bytes k ns rest (λ j. h (suc j)))
+    let first = take-at (bytesOf k n) (bytesOfAll k ns ++ rest) k (bytes-count k n) in
+    let others = drop-at (bytesOf k n) (bytesOfAll k ns ++ rest) k (bytes-count k n) in
+    rw (append-assoc, first, others, number-of-bytes k n (h 0), numbers-of-bytes k ns rest (λ j. h (suc j)))
 
 pub bytes-of-numbers : (k n : ℕ) (b : List ℕ) → Below 256 b → k * n ≤ length b
     → bytesOfAll k (numbersIn k k n b) ≡ take (k * n) b
 unfolding numbersIn bytesOfAll
 bytes-of-numbers k zero b h l = rw mul-zero
 bytes-of-numbers k (suc n) b h l =
-    let m = mul-suc k n in
+    let whole : k * suc n ≡ k + k * n = mul-suc k n ∙ omega arith in
     let rest : k * n ≤ length (drop k b) = rw length-drop (omega arith) in
-    let whole : k + k * n ≡ k * suc n = omega arith in
-    rw (bytes-of-part k b h (omega arith), bytes-of-numbers k n (drop k b) (below-drop k b h) rest)
-    (sym (take-add k (k * n) b) ∙ ap (λ (j : ℕ). take j b) whole)
+    rw (bytes-of-part k b h (omega arith), bytes-of-numbers k n (drop k b) (below-drop k b h) rest, whole, take-add)
 
 pub numbers-below : (k stride n : ℕ) (b : List ℕ) → Below 256 b → Below (256 ^ k) (numbersIn k stride n b)
 unfolding numbersIn

@@ -1,5 +1,5 @@
 -- Nothing is lost between a table and its image: each of the three parts comes back as it went.
-use mathlib.Core.Path.{_≡_, sym, ap, _∙_}
+use mathlib.Core.Path.{_≡_, ap, _∙_}
 use mathlib.Core.List.{List, [], _++_, map, append-assoc, append-nil}
 use Prim.Native.Nat.{ℕ, _^_, _<_}
 use native.Mathlib.Omega.{arith}
@@ -7,7 +7,7 @@ use lib.ListN.{length, getD, take, drop, length-drop, length-map, List·getD-map
 use lib.Seq.{take-at, drop-at, take-add, take-all}
 use lib.IntN.{pos}
 use mir.Syntax.{w32}
-use mir.Val.{Fits, SFits, toZ, ofZ}
+use mir.Val.{SFits, toZ, ofZ}
 use mir.Facts.{toZ-ofZ, ofZ-toZ, fits-ofZ}
 use Rattle.tables.specs.declared.LeapTable.{LeapTable}
 use Rattle.tables.proofs.Extensions.{Sized}
@@ -36,7 +36,9 @@ module _ (t : LeapTable) (h : Typed t) where
   parted = append-assoc (front t) (middle t) (back t)
 
   len-kept : numberIn (take 8 (front t ++ middle t ++ back t)) ≡ t .len
-  len-kept = rw (parted, take-at (front t) (middle t ++ back t) 8 (bytes-count 8 (t .len))) (number-of-bytes 8 (t .len) (h .len))
+  len-kept =
+      rw (parted, take-at (front t) (middle t ++ back t) 8 (bytes-count 8 (t .len)))
+      (number-of-bytes 8 (t .len) (h .len))
 
   thresholds-kept : numbersIn 8 8 64 (drop 8 (front t ++ middle t ++ back t)) ≡ t .thresholds
   thresholds-kept =
@@ -62,26 +64,20 @@ module _ (b : List ℕ) (h : Below 256 b) (l : length b ≡ 776) where
   thresholds-back : bytesOfAll 8 (numbersIn 8 8 64 (drop 8 b)) ≡ take 512 (drop 8 b)
   thresholds-back = bytes-of-numbers 8 64 (drop 8 b) (below-drop 8 b h) (rw length-drop (omega arith))
 
-  held : List ℕ
-  held = numbersIn 4 4 64 (drop 520 b)
-
-  offsets-back : bytesOfAll 4 (map (ofZ w32) (map (toZ w32) held)) ≡ take 256 (drop 520 b)
-  unfolding held
+  offsets-back : bytesOfAll 4 (map (ofZ w32) (map (toZ w32) (numbersIn 4 4 64 (drop 520 b)))) ≡ take 256 (drop 520 b)
   offsets-back =
       let bytes = below-drop 520 b h in
-      let fits : (i : ℕ) → Fits w32 (getD held i 0) = λ i. record { fits = numbers-below 4 4 64 (drop 520 b) bytes i } in
-      ap (bytesOfAll 4) (undone 0 (toZ w32) (ofZ w32) held (λ i. ofZ-toZ (fits i)))
+      ap (bytesOfAll 4)
+      (undone 0 (toZ w32) (ofZ w32) _
+      (λ i. ofZ-toZ {w = w32} (record { fits = numbers-below 4 4 64 (drop 520 b) bytes i })))
       ∙ bytes-of-numbers 4 64 (drop 520 b) bytes (rw length-drop (omega arith))
 
   -- 8, 512 and 256 bytes one after the other are all 776
-  joined : take 8 b ++ take 512 (drop 8 b) ++ take 256 (drop 520 b) ≡ b
-  joined =
-      ap (λ (front : List ℕ). front ++ take 256 (drop 520 b)) (sym (take-add 8 512 b)) ∙ sym (take-add 520 256 b)
-      ∙ take-all 776 b (omega arith)
-
   image-kept : imageOf (tableIn b) ≡ b
-  unfolding tableIn imageOf held
-  image-kept = (λ i. bytes-of-part 8 b h (omega arith) i ++ thresholds-back i ++ offsets-back i) ∙ joined
+  unfolding tableIn imageOf
+  image-kept =
+      rw (bytes-of-part 8 b h (omega arith), thresholds-back, offsets-back, ← take-add 8 512 b, ← take-add 520 256 b)
+      (take-all 776 b (omega arith))
 
 pub nothing-lost : NothingLost
 nothing-lost = record { table = table-kept; image = image-kept; size = λ t s. image-count s }

@@ -1,5 +1,5 @@
--- One pass over the slots: after the first i, of which none is refused, it knows the last threshold, the offset that has
--- to come next, and the place of the entry in force among them.
+-- One pass over the slots: after the first i, none of which is refused, it knows the last threshold, the offset that
+-- must come next, and the place of the entry in force among them.
 use mathlib.Core.Path.{_≡_, refl, sym, ap, _∙_}
 use mathlib.Core.Bool.{true}
 use mathlib.Core.List.{List}
@@ -108,7 +108,8 @@ module _ {b : List ℕ} {n : ℕ} (o : Opened b n) (t : ℕ) where
   begins l f = by-order (decLe (threshold (slot b 0)) t)
     where
       first : Step b t n 0 0 (offset (slot b 0))
-      first = step 0 0 0 l f (one-passes (paired (thresholds b) (tableIn b .offsets))) (none-reached (thresholds b) t) refl
+      first =
+          step 0 0 0 l f (one-passes (paired (thresholds b) (tableIn b .offsets))) (none-reached (thresholds b) t) refl
 
       by-order : Dec (threshold (slot b 0) ≤ t)
           → Pass b t n 1 (threshold (slot b 0)) (ofZ w64 (offset (slot b 0) +ℤ pos 1)) 0
@@ -129,7 +130,8 @@ module _ {b : List ℕ} {t n i before one-more place : ℕ} (p : Pass b t n i be
     -- a threshold that is not above the one before
     pub not-above : threshold (slot b i) ≤ before → refused 8 ≡ answer b t
     not-above q =
-        not-valid (p .opened) t i (p .some) l (rw (le-ltb (threshold (slot b (i - 1))) (threshold (slot b i)) (omega arith)))
+        not-valid (p .opened) t i (p .some) l
+        (rw (le-ltb (threshold (slot b (i - 1))) (threshold (slot b i)) (omega arith)))
 
     module _ (q : before < threshold (slot b i)) where
       above : threshold (slot b (i - 1)) < threshold (slot b i)

@@ -71,8 +71,9 @@ module _ {t : LeapTable} (s : Sized t) where
       let rest = bytesOfAll 8 (drop (i + 1) (t .thresholds)) in
       let apart : 8 + 8 * (i + 1) + length rest ≤ 520 + 4 * i
       = rw (all-bytes-count, length-drop) (omega (arith, s .thresholds)) in
+      let bits-are = e ∙ sym (List·getD-map (ofZ w32) (t .offsets) i (pos 0)) in
       rw (sets-apart rest (bytesOf 4 v) one (8 + 8 * (i + 1)) (520 + 4 * i) apart)
-      (field-written _ (bits t) 4 520 i v (omega (arith, bits-count)) (e ∙ sym (List·getD-map (ofZ w32) (t .offsets) i (pos 0)))
+      (field-written _ (bits t) 4 520 i v (omega (arith, bits-count)) bits-are
       ∙ rw (field-written b (t .thresholds) 8 8 i _ (omega (arith, s .thresholds)) refl))
 
   pub all-slots-written : (b : List ℕ) (i : ℕ) → i ≡ 64 → writtenFrom t i b ≡ b

@@ -45,20 +45,20 @@ loop-again c =
     let start = at .before .before .before .before .before .before in
     let s = at .loop in
     let fits : SFits w32 (getD (start .args .t2 .offsets) (s .i) (pos 0)) = search needs in
+    let bits-are = bits .ensures ∙ ap (ofZ w32) (toZ-ofZ fits) in
     let written = third .put-number3 .ensures
     ∙ ap (λ (l : List ℕ). sets l (520 + 4 * s .i) (bytesOf 4 (bits .result))) (second .put-number2 .ensures) in (
       search needs,
       search needs,
       ap (writtenFrom (start .args .t2) (s .i + 1)) written
-          ∙ slot-written (sizes start) (s .image) (s .i) (bits .result) (omega arith) (bits .ensures ∙ ap (ofZ w32) (toZ-ofZ fits))
-          ∙ s .inv .2,
+          ∙ slot-written (sizes start) (s .image) (s .i) (bits .result) (omega arith) bits-are ∙ s .inv .2,
     )
 
 returns : call.Tie.Need-returns Inv-loop μ-loop
 returns c =
     let s = c .before .loop in
-    sym (all-slots-written (sizes (c .before .before .before .before .before .before .before)) (s .image) (s .i) (omega arith))
-    ∙ s .inv .2
+    let start = c .before .before .before .before .before .before .before in
+    sym (all-slots-written (sizes start) (s .image) (s .i) (omega arith)) ∙ s .inv .2
 
 pub put-table-spec : {M : Type 1} → call.Statement.statement M
 put-table-spec =

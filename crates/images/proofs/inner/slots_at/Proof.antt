@@ -28,7 +28,8 @@ loop-holds c = (search needs, none-kept refl, none-kept refl)
 -- the threshold and the offset of this turn stand within the bytes
 within : (c : call.Tie.In-loop Inv-loop μ-loop)
     → let a = c .before .before .before .args in let i = c .before .loop .i in
-    (a .thresholds-at + a .threshold-stride * i + 8 ≤ length (now (a .bytes))) × (a .offsets-at + a .offset-stride * i + 4 ≤ length (now (a .bytes)))
+    (a .thresholds-at + a .threshold-stride * i + 8 ≤ length (now (a .bytes)))
+    × (a .offsets-at + a .offset-stride * i + 4 ≤ length (now (a .bytes)))
 within c =
     let pre = c .before .before .before .pre in
     let i = c .before .loop .i in

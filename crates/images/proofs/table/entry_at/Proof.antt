@@ -27,7 +27,8 @@ returns-2 c =
 returns-3 : call.Tie.Need-returns-3
 returns-3 c =
     let k = known (c .before .before) in
-    answers k (sym (past _ _ _ (k .table .in-thresholds) (k .table .in-offsets) _ (omega (arith, c .before .len .ensures))))
+    let len = c .before .len .ensures in
+    answers k (sym (past _ _ _ (k .table .in-thresholds) (k .table .in-offsets) _ (omega arith)))
 
 pub entry-at-spec : {M : Type 1} → call.Statement.statement M
 entry-at-spec =

@@ -20,8 +20,8 @@ start c = c .before .before .before .before .before
 
 -- the first lookup tells, so the image holds a valid table
 told : (c : call.Tie.After-first) → let b = now (start c .args .image) in
-    answered (c .first .given .0 .0)
-    ≡ cond (holds b) (answered (lookup (entriesOf (tableIn b)) (c .before .before .before .first-reading-of .result))) (refused 8)
+    let reading = c .before .before .before .first-reading-of .result in
+    answered (c .first .given .0 .0) ≡ cond (holds b) (answered (lookup (entriesOf (tableIn b)) reading)) (refused 8)
 told c =
     sym (ap lookupIn (c .first .given .1)) ∙ c .before .before .checked-look-up .ensures
     ∙ one-test (now (start c .args .image)) _
@@ -39,8 +39,8 @@ returns c =
     let a = start first .args in
     let b = now (a .image) in
     c .gps-from-lookup .ensures
-    ∙ gps-from-store (holds b) _ (countIn (a .utc)) (first .before .before .before .first-reading-of .ensures) (told first)
-    (last .last-reading-of .ensures) (c .before .look-up .ensures)
+    ∙ gps-from-store (holds b) _ (countIn (a .utc)) (first .before .before .before .first-reading-of .ensures)
+    (told first) (last .last-reading-of .ensures) (c .before .look-up .ensures)
     ∙ sym (one-test b _)
 
 returns-2 : call.Tie.Need-returns-2

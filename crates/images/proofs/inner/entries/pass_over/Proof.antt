@@ -45,11 +45,11 @@ returns c =
     let a = known .before .args in
     let b = now (a .entries) in
     let s = c .before .loop in
-    let none : length b / 12 - s .i ≡ 0 = omega arith in
+    let ends : length b / 12 - s .i ≡ 0 = omega arith in
     let seen : seenIn (s .pass) ≡ passed (begun (a .tai)) (entriesIn b)
-    = sym (ended (seenIn (s .pass)) (drop (12 * s .i) b)) ∙ (rw none at (s .inv .2)) in
-    let fits = offsets-fit (length b / 12) b (λ i. known .shared-slice-known .given i .fits) in
-    (seen, ap (λ (x : Seen). eqb (x .refusal) 0) seen ∙ rw (first-found (a .tai) (entriesIn b)) (none-refused (entriesIn b) fits))
+    = sym (ended (seenIn (s .pass)) (drop (12 * s .i) b)) ∙ (rw ends at (s .inv .2)) in
+    let none = none-refused (entriesIn b) (offsets-fit _ b (λ i. known .shared-slice-known .given i .fits)) in
+    (seen, ap (λ (x : Seen). eqb (x .refusal) 0) seen ∙ rw (first-found (a .tai) (entriesIn b)) none)
 
 pub pass-over-spec : {M : Type 1} → call.Statement.statement M
 pass-over-spec =

@@ -31,18 +31,19 @@ given-fits : (c : call.Tie.After-offset2 Inv-loop μ-loop) → SFits w32 (c .off
 given-fits c = search needs
 
 given-is : (c : call.Tie.After-offset2 Inv-loop μ-loop) → let at = c .before .before .before .before in
-    toZ w32 (ofZ w32 (c .offset2 .result))
-    ≡ offset (slot (now (at .before .before .before .before .before .before .before .before .args .image)) (at .loop .i))
+    let b = now (at .before .before .before .before .before .before .before .before .args .image) in
+    toZ w32 (ofZ w32 (c .offset2 .result)) ≡ offset (slot b (at .loop .i))
 given-is c = toZ-ofZ (given-fits c) ∙ c .offset2 .ensures
 
 -- a slot that follows the one before
 step : (c : call.Tie.Else5 Inv-loop μ-loop) → let at = c .before .before .before .before .before in
-    let a = at .before .before .before .before .before .before .before .before .args in
-    Step (now (a .image)) (a .tai) (at .before .before .before .before .before .len .result) (at .loop .i) (at .loop .place)
-    (toZ w64 (at .loop .one-more))
+    let len = at .before .before .before .before .before in
+    let a = len .before .before .before .args in
+    Step (now (a .image)) (a .tai) (len .len .result) (at .loop .i) (at .loop .place) (toZ w64 (at .loop .one-more))
 step c =
     let read = c .before .before .before in
-    further (read .before .before .loop .inv) (read .before .loop-test .taken) (omega (arith, read .threshold2 .ensures))
+    let next = read .threshold2 .ensures in
+    further (read .before .before .loop .inv) (read .before .loop-test .taken) (omega arith)
     (rw (c .before .offset2 .ensures) at (given-fits (c .before)))
     (ap (ofZ w64) (sym (given-is (c .before))) ∙ c .if5 .left)
 
@@ -63,13 +64,14 @@ loop-holds c =
 
 returns-4 : call.Tie.Need-returns-4 Inv-loop μ-loop
 returns-4 c =
-    let read = c .before in
-    not-above (read .before .before .loop .inv) (read .before .loop-test .taken) (omega (arith, read .threshold2 .ensures))
+    let next = c .before .threshold2 .ensures in
+    not-above (c .before .before .before .loop .inv) (c .before .before .loop-test .taken) (omega arith)
 
 returns-5 : call.Tie.Need-returns-5 Inv-loop μ-loop
 returns-5 c =
     let read = c .before .before .before in
-    not-one-more (read .before .before .loop .inv) (read .before .loop-test .taken) (omega (arith, read .threshold2 .ensures))
+    let next = read .threshold2 .ensures in
+    not-one-more (read .before .before .loop .inv) (read .before .loop-test .taken) (omega arith)
     (λ e. c .if5 .taken (ap (ofZ w64) (given-is (c .before)) ∙ e))
 
 loop-again : call.Tie.Need-loop-again Inv-loop μ-loop
@@ -81,11 +83,6 @@ loop-again-2 : call.Tie.Need-loop-again-2 Inv-loop μ-loop
 loop-again-2 c =
     let next = c .before .before .before .before .threshold2 .ensures in
     rw next (step (c .before) .above (omega (arith, next)))
-
-told-requires-2 : call.Tie.Need-told-requires-2 Inv-loop μ-loop
-told-requires-2 c κs =
-    let p = c .before .loop .inv in
-    (p .opened .size, omega (arith, p, p .counted .within))
 
 returns-6 : call.Tie.Need-returns-6 Inv-loop μ-loop
 returns-6 c = told (c .before .before .loop .inv) (c .before .loop-test .left) (c .told2 .ensures)
@@ -117,5 +114,5 @@ checked-look-up-spec =
     loop-again
     (λ c. search needs)
     loop-again-2
-    told-requires-2
+    (λ c κs. let p = c .before .loop .inv in (p .opened .size, omega (arith, p, p .counted .within)))
     returns-6)

@@ -26,8 +26,9 @@ count-at-or-below-requires c κs =
 told-requires : call.Tie.Need-told-requires
 told-requires c κs =
     let count = c .before in
+    let within = count .count-at-or-below .ensures .within in
     let few = known (count .before .before .before) .few in
-    (search needs, omega (arith, c .place-in-force .ensures, count .count-at-or-below .ensures .within, count .before .len .ensures))
+    (search needs, omega (arith, c .place-in-force .ensures, count .before .len .ensures))
 
 returns : call.Tie.Need-returns
 returns c =
