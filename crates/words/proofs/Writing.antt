@@ -2,7 +2,7 @@
 use mathlib.Core.Path.{_≡_, refl, sym, ap, _∙_}
 use mathlib.Core.List.{List, [], _∷_, _++_, append-nil, append-assoc}
 use Prim.Native.Nat.{ℕ, zero, suc, zero-le, _+_, _-_, _*_, _/_, _%_, _^_, _<_, _≤_}
-use native.Mathlib.Nat.{pow-suc, pow-succ', pow-le-pow-right, add-zero, zero-add, add-suc, suc-add, div-one, div-div-eq-div-mul}
+use native.Mathlib.Nat.{pow-suc, pow-succ', pow-le-pow-right, add-zero, zero-add, sub-zero, sub-self, add-suc, suc-add, div-one, div-div-eq-div-mul}
 use native.Mathlib.Numerals.{add-one}
 use native.Mathlib.Omega.{arith}
 use borrow.Author.Tests.{lt-ltb, le-ltb}
@@ -10,7 +10,7 @@ use lib.Arith.{mod-mul}
 use lib.Dec.{lit<}
 use lib.ListN.{length, length-append, set}
 use lib.Pow.{pow-add}
-use lib.Seq.{sets}
+use lib.Seq.{sets, length-sets}
 use Rattle.words.specs.Decimal.{inDigits, placesUpTo}
 use Rattle.words.proofs.Stores.{sets-sets, sets-before}
 
@@ -66,21 +66,35 @@ module _ (out : List ℕ) (at n : ℕ) where
       ∙ ap (λ (p : ℕ). sets start p (inDigits 4 (n / 10000 % 10000) ++ inDigits 4 (n % 10000))) (add-one at)
       ∙ ap (sets start (suc at)) fours ∙ ap (sets out at) (sym all)
 
--- a turn of a writer from the end: k digits more stand before those that are written
-module _ (k : ℕ) (out : List ℕ) (at left width n : ℕ) (some : k ≤ left) (most : left ≤ width) where
-  wider : width - (left - k) ≡ k + (width - left)
-  wider = omega arith
+-- a writer from the end: the digits from `left` on are written, and `rest` is the number without them
+pub record Written (out₀ : List ℕ) (at width n : ℕ) (out : List ℕ) (left rest : ℕ) : Type 0 where
+  pub within : left ≤ width
+  pub digits : out ≡ sets out₀ (at + left) (inDigits (width - left) n)
+  pub without : rest ≡ n / 10 ^ (width - left)
+  pub size : length out ≡ length out₀
 
-  pub some-more : sets (sets out (at + left) (inDigits (width - left) n)) (at + (left - k)) (inDigits k (n / 10 ^ (width - left)))
-      ≡ sets out (at + (left - k)) (inDigits (width - (left - k)) n)
-  some-more =
-      sets-before (inDigits k (n / 10 ^ (width - left))) (inDigits (width - left) n) out (at + (left - k)) (at + left) (omega (arith, digits-length k (n / 10 ^ (width - left))))
-      ∙ ap (sets out (at + (left - k))) (sym (ap (λ (j : ℕ). inDigits j n) wider ∙ cut (width - left) k n))
+module _ {out₀ : List ℕ} {at width n : ℕ} where
+  pub none-written : Written out₀ at width n out₀ width n
+  none-written = record { within = omega arith; digits = rw sub-self; without = rw (sub-self, div-one); size = refl }
 
-  pub some-less : n / 10 ^ (width - left) / 10 ^ k ≡ n / 10 ^ (width - (left - k))
-  some-less =
-      div-div-eq-div-mul n (10 ^ (width - left)) (10 ^ k) ∙ ap (λ (p : ℕ). n / p) (sym (pow-add 10 (width - left) k))
-      ∙ ap (λ (j : ℕ). n / 10 ^ j) (omega arith)
+  module _ {out : List ℕ} {left rest : ℕ} (h : Written out₀ at width n out left rest) where
+    -- k digits more, before those that are written
+    pub some-written : (k : ℕ) → k ≤ left
+        → Written out₀ at width n (sets out (at + (left - k)) (inDigits k rest)) (left - k) (rest / 10 ^ k)
+    some-written k l =
+        let wider : width - (left - k) ≡ k + (width - left) = omega (arith, h .within) in
+        let sum : width - left + k ≡ k + (width - left) = omega arith in
+        let place : at + left ≡ at + (left - k) + length (inDigits k rest) = omega (arith, digits-length k rest) in
+        let before = sets-before (inDigits k rest) (inDigits (width - left) n) out₀ (at + (left - k)) (at + left) place in
+        record {
+          within = omega (arith, h .within);
+          digits = rw (h .digits) (before ∙ rw (wider, cut (width - left) k n, h .without));
+          without = rw (h .without, div-div-eq-div-mul, ← pow-add 10 (width - left) k, sum, wider);
+          size = length-sets out (at + (left - k)) (inDigits k rest) ∙ h .size;
+        }
+
+    pub all-written : sets out at (inDigits left rest) ≡ sets out₀ at (inDigits width n)
+    all-written = rw (sub-self, add-zero, sub-zero) at (some-written left (omega arith) .digits)
 
 -- from 10 ^ j up to 10 ^ suc j a number has suc j places
 pub places-are : (j k n : ℕ) → 10 ^ j ≤ n → n < 10 ^ suc j → placesUpTo (j + suc k) n ≡ suc j
@@ -90,32 +104,17 @@ places-are (suc j) k n least most =
     let big : 10 ≤ n = omega (arith, pow-le-pow-right {n = 10} (lit< tt) {i = 1} {j = suc j} (omega arith)) in
     rw (suc-add, le-ltb n 10 big) (ap suc (places-are j k (n / 10) (omega (arith, pow-suc 10 j)) (omega (arith, pow-suc 10 (suc j)))))
 
--- a turn of `counted_places`: the rest has at most k digits
-never : {rest : ℕ} → 10 ≤ rest → rest < 1 → ⊥
-never h l = omega arith
-
+-- the last turn of `counted_places`, and another: the rest has at most k digits
 pub last-place : (k rest : ℕ) → 0 < k → rest < 10 → placesUpTo k rest ≡ 1
 unfolding placesUpTo
-last-place zero rest s h = absurd (none s)
-  where
-    none : 0 < 0 → ⊥
-    none s = omega arith
+last-place zero rest s h = absurd (omega arith)
 last-place (suc f) rest s h = rw (lt-ltb rest 10 h)
 
-pub next-place : (k rest : ℕ) → rest < 10 ^ k → 10 ≤ rest → placesUpTo k rest ≡ suc (placesUpTo (k - 1) (rest / 10))
+pub next-place : (k rest : ℕ) → rest < 10 ^ k → 10 ≤ rest
+    → (placesUpTo k rest ≡ suc (placesUpTo (k - 1) (rest / 10))) × (rest / 10 < 10 ^ (k - 1)) × (2 ≤ k)
 unfolding placesUpTo
-next-place zero rest s h = absurd (never h s)
-next-place (suc f) rest s h =
-    let one-less : suc f - 1 ≡ f = omega arith in
-    rw (le-ltb rest 10 h, one-less)
-
-pub next-small : (k rest : ℕ) → rest < 10 ^ k → 10 ≤ rest → rest / 10 < 10 ^ (k - 1)
-next-small zero rest s h = absurd (never h s)
-next-small (suc f) rest s h =
-    let one-less : suc f - 1 ≡ f = omega arith in
-    rw one-less (omega (arith, pow-suc 10 f))
-
-pub another : (k rest : ℕ) → rest < 10 ^ k → 10 ≤ rest → 2 ≤ k
-another zero rest s h = absurd (never h s)
-another (suc zero) rest s h = omega arith
-another (suc (suc k)) rest s h = omega arith
+next-place zero rest s h = absurd (omega arith)
+next-place (suc zero) rest s h = absurd (omega arith)
+next-place (suc (suc f)) rest s h =
+    let one-less : suc (suc f) - 1 ≡ suc f = omega arith in
+    (rw (le-ltb rest 10 h, one-less), rw one-less (omega (arith, pow-suc 10 (suc f))), omega arith)

@@ -6,7 +6,7 @@ use native.Mathlib.Nat.{zero-add}
 use native.Mathlib.Omega.{arith}
 use borrow.Author.Needs.{needs}
 use Rattle.words.specs.Decimal.{placesUpTo}
-use Rattle.words.proofs.Writing.{last-place, next-place, next-small, another}
+use Rattle.words.proofs.Writing.{last-place, next-place}
 use Rattle.words.proofs.inner.digits.counted_places as call
 
 abbrev Inv-loop : call.Tie.InvT-loop
@@ -21,20 +21,15 @@ loop-holds c = (sym (zero-add _), omega arith, omega arith)
 
 loop-again : call.Tie.Need-loop-again Inv-loop μ-loop
 loop-again c =
-    let h = c .before .loop .inv in
-    let more = c .before .loop .more in
-    let rest = c .before .loop .rest in
-    let big : 10 ≤ rest = c .loop-test .taken in
-    let fewer : 20 - more - 1 ≡ 20 - (more + 1) = omega arith in (
-      h .0 ∙ rw (next-place (20 - more) rest (h .1) big, fewer) (omega arith),
-      rw fewer at (next-small (20 - more) rest (h .1) big),
-      omega (arith, another (20 - more) rest (h .1) big),
-    )
+    let s = c .before .loop in
+    let next = next-place (20 - s .more) (s .rest) (s .inv .1) (c .loop-test .taken) in
+    let fewer : 20 - s .more - 1 ≡ 20 - (s .more + 1) = omega arith in
+    (s .inv .0 ∙ rw (next .0, fewer) (omega arith), rw fewer at (next .1), omega (arith, next .2))
 
 returns : call.Tie.Need-returns Inv-loop μ-loop
 returns c =
-    let h = c .before .loop .inv in
-    (sym (h .0 ∙ rw (last-place (20 - c .before .loop .more) (c .before .loop .rest) (omega arith) (c .loop-test .left))), omega arith)
+    let s = c .before .loop in
+    (sym (s .inv .0 ∙ rw (last-place (20 - s .more) (s .rest) (omega arith) (c .loop-test .left))), omega arith)
 
 pub counted-places-spec : {M : Type 1} → call.Statement.statement M
 counted-places-spec =
