@@ -18,10 +18,6 @@ module _ (b : List ℕ) where
   unfolding numberIn
   first-byte k at next e h = ap (λ (l : List ℕ). numberIn (take (suc k) l)) (drop-cons b at 0 h) ∙ rw e
 
-  no-byte : (at : ℕ) → numberIn (take 0 (drop at b)) ≡ 0
-  unfolding numberIn
-  no-byte at = refl
-
   -- four bytes, each 256 times as heavy as the one before
   abbrev four : ℕ → ℕ
   four at = getD b at 0 + getD b (at + 1) 0 * 256 + getD b (at + 2) 0 * 65_536 + getD b (at + 3) 0 * 16_777_216
@@ -38,17 +34,14 @@ module _ (b : List ℕ) where
       )
 
   pub number-in-4 : (at : ℕ) → at + 4 ≤ length b → four at ≡ numberIn (take 4 (drop at b))
-  number-in-4 at h = omega (arith, first-four 0 at h, no-byte (at + 4))
+  unfolding numberIn
+  number-in-4 at h = omega (arith, first-four 0 at h)
 
   pub number-in-8 : (at : ℕ) → at + 8 ≤ length b
       → numberIn (take 4 (drop at b)) + numberIn (take 4 (drop (at + 4) b)) * 4_294_967_296 ≡ numberIn (take 8 (drop at b))
   number-in-8 at h = omega (arith, first-four 4 at (omega arith), number-in-4 at (omega arith))
 
 -- ---- high byte first, from the first byte to the last
-
-pub none-high : (b : List ℕ) → numberHighFirst (take 0 b) ≡ 0
-unfolding numberIn
-none-high b = refl
 
 pub next-high : (b : List ℕ) (at i : ℕ) → at + i < length b
     → numberHighFirst (take (i + 1) (drop at b)) ≡ numberHighFirst (take i (drop at b)) * 256 + getD b (at + i) 0
@@ -69,18 +62,13 @@ room-for-byte n k h l = omega (arith, pow-le-pow-right {n = 256} (lit< tt) l)
 
 -- what is left to be written, one byte fewer
 pub byte-written : (out : List ℕ) (at width i rest : ℕ) → i < width
-    → sets (set out (at + i) (rest % 256)) (at + (i + 1)) (bytesOf (width - (i + 1)) (rest / 256)) ≡ sets out (at + i) (bytesOf (width - i) rest)
+    → sets (set out (at + i) (rest % 256)) (at + (i + 1)) (bytesOf (width - (i + 1)) (rest / 256))
+    ≡ sets out (at + i) (bytesOf (width - i) rest)
 unfolding bytesOf
 byte-written out at width i rest h =
-    let w : suc (width - (i + 1)) ≡ width - i = omega arith in
+    let w : width - i ≡ suc (width - (i + 1)) = omega arith in
     let p : at + (i + 1) ≡ suc (at + i) = omega arith in
-    ap (λ (k : ℕ). sets (set out (at + i) (rest % 256)) k (bytesOf (width - (i + 1)) (rest / 256))) p
-    ∙ ap (λ (k : ℕ). sets out (at + i) (bytesOf k rest)) w
-
-pub all-written : (out : List ℕ) (at width rest : ℕ) → sets out at (bytesOf (width - width) rest) ≡ out
-unfolding bytesOf
-all-written out at width rest =
-    let w : width - width ≡ 0 = omega arith in ap (λ (k : ℕ). sets out at (bytesOf k rest)) w
+    rw (w, p)
 
 pub bytes-count : (k n : ℕ) → length (bytesOf k n) ≡ k
 unfolding bytesOf

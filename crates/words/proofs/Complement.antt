@@ -1,5 +1,5 @@
 -- A signed number as its two's complement: of 32 bits by its sign, and of one to eight bytes.
-use mathlib.Core.Path.{_≡_, refl, sym, ap, subst, _∙_}
+use mathlib.Core.Path.{_≡_, refl, sym, ap, _∙_}
 use mathlib.Core.Bool.{true, false, true≢false}
 use Prim.Native.Nat.{ℕ, zero, suc, _+_, _-_, _*_, _/_, _%_, _^_, _≤_, _<_}
 use native.Mathlib.Omega.{arith}
@@ -15,28 +15,19 @@ use mir.Facts.{toZ-pos}
 abbrev pub Casts : ℤ → Type 0
 Casts z = T (nonNeg z) × Fits w32 (natAbs z)
 
-module _ (z : ℤ) (fits : SFits w32 z) where
-  pub not-negative : leZ (pos 0) z ≡ true → Casts z × (natAbs z ≡ ofZ w32 z)
-  not-negative = by-sign z fits
-    where
-      by-sign : (z : ℤ) → SFits w32 z → leZ (pos 0) z ≡ true → Casts z × (natAbs z ≡ ofZ w32 z)
-      by-sign (pos k) f h = ((tt, record { fits = omega (arith, f .sfits) }), refl)
-      by-sign (negsuc k) f h = absurd (true≢false (sym h))
+pub not-negative : (z : ℤ) → SFits w32 z → leZ (pos 0) z ≡ true → Casts z × (natAbs z ≡ ofZ w32 z)
+not-negative (pos k) f h = ((tt, record { fits = omega (arith, f .sfits) }), refl)
+not-negative (negsuc k) f h = absurd (true≢false (sym h))
 
-  -- all 32 bits turned
-  pub negative : leZ (pos 0) z ≡ false
-      → Casts (toZ w32 (4294967295 - ofZ w32 z)) × (4294967295 - natAbs (toZ w32 (4294967295 - ofZ w32 z)) ≡ ofZ w32 z)
-  negative = by-sign z fits
-    where
-      turned : (k : ℕ) → k < 2 ^ 31 → toZ w32 (4294967295 - (4294967296 - suc k)) ≡ pos k
-      turned k h = let e : 4294967295 - (4294967296 - suc k) ≡ k = omega arith in ap (toZ w32) e ∙ toZ-pos w32 {n = k} h
+-- all 32 bits turned
+turned : (k : ℕ) → k < 2 ^ 31 → toZ w32 (4294967295 - (4294967296 - suc k)) ≡ pos k
+turned k h = let e : 4294967295 - (4294967296 - suc k) ≡ k = omega arith in ap (toZ w32) e ∙ toZ-pos w32 {n = k} h
 
-      by-sign : (z : ℤ) → SFits w32 z → leZ (pos 0) z ≡ false
-          → Casts (toZ w32 (4294967295 - ofZ w32 z)) × (4294967295 - natAbs (toZ w32 (4294967295 - ofZ w32 z)) ≡ ofZ w32 z)
-      by-sign (pos k) f h = absurd (true≢false (sym (le-leb 0 k (omega arith)) ∙ h))
-      by-sign (negsuc k) f h =
-          subst (λ (y : ℤ). Casts y × (4294967295 - natAbs y ≡ 4294967296 - suc k)) (sym (turned k (f .sfits)))
-          ((tt, record { fits = omega (arith, f .sfits) }), omega (arith, f .sfits))
+pub negative : (z : ℤ) → SFits w32 z → leZ (pos 0) z ≡ false → let y = toZ w32 (4294967295 - ofZ w32 z) in
+    Casts y × (4294967295 - natAbs y ≡ ofZ w32 z)
+negative (pos k) f h = absurd (true≢false (sym (le-leb 0 k (omega arith)) ∙ h))
+negative (negsuc k) f h =
+    rw (turned k (f .sfits)) ((tt, record { fits = omega (arith, f .sfits) }), omega (arith, f .sfits))
 
 -- a width of one to eight bytes: its largest number is all ones, and half of its numbers have the first bit
 abbrev pub Width : ℕ → Type 0

@@ -1,5 +1,5 @@
 -- `inner::complement` keeps the bits, by the number's sign.
-use mathlib.Core.Path.{_≡_, sym, ap, subst, _∙_}
+use mathlib.Core.Path.{_≡_, ap, _∙_}
 use Prim.Native.Nat.{_-_}
 use lib.IntN.{natAbs}
 use mir.Syntax.{w32}
@@ -16,14 +16,9 @@ kept : (c : call.Tie.Then1) → Casts (c .before .args .n) × (natAbs (c .before
 kept c = not-negative (c .before .args .n) (c .before .fits .n) (rw (back (c .before)) at (c .if1 .taken))
 
 turned : (c : call.Tie.Else1)
-    → let z = c .before .args .n in Casts (toZ w32 (4294967295 - ofZ w32 z)) × (4294967295 - natAbs (toZ w32 (4294967295 - ofZ w32 z)) ≡ ofZ w32 z)
+    → let z = c .before .args .n in let y = toZ w32 (4294967295 - ofZ w32 z) in
+    Casts y × (4294967295 - natAbs y ≡ ofZ w32 z)
 turned c = negative (c .before .args .n) (c .before .fits .n) (rw (back (c .before)) at (c .if1 .left))
-
-cast-result : call.Tie.Need-cast-result
-cast-result c = subst Casts (sym (back (c .before))) (kept c .0)
-
-cast-result-2 : call.Tie.Need-cast-result-2
-cast-result-2 c = turned c .0
 
 returns : call.Tie.Need-returns
 returns c = ap natAbs (back (c .before)) ∙ kept c .1
@@ -32,4 +27,5 @@ returns-2 : call.Tie.Need-returns-2
 returns-2 c = turned c .1
 
 pub complement-spec : {M : Type 1} → call.Statement.statement M
-complement-spec = call.Tie.close (call.Tie.spec cast-result cast-result-2 returns returns-2)
+complement-spec =
+    call.Tie.close (call.Tie.spec (λ c. rw (back (c .before)) (kept c .0)) (λ c. turned c .0) returns returns-2)

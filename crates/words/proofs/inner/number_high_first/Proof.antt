@@ -1,13 +1,13 @@
 -- `inner::number_high_first` takes the bytes from the first to the last, and has the number of those passed.
-use mathlib.Core.Path.{_≡_, sym, _∙_}
+use mathlib.Core.Path.{_≡_, refl, sym, _∙_}
 use Prim.Native.Nat.{_-_, _^_, _≤_, _<_}
 use native.Mathlib.Omega.{arith}
 use borrow.Author.Needs.{needs}
 use denote.Ref.{now}
 use lib.Dec.{lit<}
 use lib.ListN.{take, drop}
-use Rattle.words.specs.Words.{numberHighFirst}
-use Rattle.words.proofs.Bytes.{none-high, next-high, byte-above, room-for-byte}
+use Rattle.words.specs.Words.{numberIn, numberHighFirst}
+use Rattle.words.proofs.Bytes.{next-high, byte-above, room-for-byte}
 use Rattle.words.proofs.inner.number_high_first as call
 
 abbrev Inv-loop : call.Tie.InvT-loop
@@ -17,13 +17,8 @@ abbrev μ-loop : call.Tie.MeasureT-loop
 μ-loop bytes at width n₀ i₀ n i = width - i
 
 loop-holds : call.Tie.Need-loop-holds Inv-loop μ-loop
-loop-holds c = let a = c .before .args in (search needs, sym (none-high (drop (a .at) (now (a .bytes)))), lit< tt)
-
-mul-n : call.Tie.Need-mul-n Inv-loop μ-loop
-mul-n c = let s = c .before .loop in omega (arith, room-for-byte (s .n) _ (s .inv .2) (omega arith))
-
-add-n : call.Tie.Need-add-n Inv-loop μ-loop
-add-n c = let s = c .before .before .loop in omega (arith, room-for-byte (s .n) _ (s .inv .2) (omega arith), c .byte .ensures .1)
+unfolding numberIn
+loop-holds c = (search needs, refl, lit< tt)
 
 loop-again : call.Tie.Need-loop-again Inv-loop μ-loop
 loop-again c =
@@ -48,10 +43,10 @@ number-high-first-spec =
     Inv-loop
     μ-loop
     loop-holds
-    mul-n
+    (λ c. omega (arith, room-for-byte _ _ (c .before .loop .inv .2) (omega arith)))
     (λ c. search needs)
     (λ c κs. search needs)
-    add-n
+    (λ c. omega (arith, room-for-byte _ _ (c .before .before .loop .inv .2) (omega arith), c .byte .ensures .1))
     (λ c. search needs)
     (λ c. search needs)
     loop-again

@@ -1,18 +1,19 @@
 -- `inner::put_number` stores the lowest byte of what is left at each turn.
-use mathlib.Core.Path.{_≡_, refl, sym, ap, _∙_}
-use Prim.Native.Nat.{ℕ, _+_, _-_, _≤_}
+use mathlib.Core.Path.{_≡_, refl, _∙_}
+use Prim.Native.Nat.{_+_, _-_, _≤_}
 use native.Mathlib.Nat.{add-zero, sub-zero}
 use native.Mathlib.Omega.{arith}
 use borrow.Author.Needs.{needs}
 use lib.ListN.{length, length-set}
 use lib.Seq.{sets}
 use Rattle.words.specs.Words.{bytesOf}
-use Rattle.words.proofs.Bytes.{byte-written, all-written}
+use Rattle.words.proofs.Bytes.{byte-written}
 use Rattle.words.proofs.inner.put_number as call
 
 abbrev Inv-loop : call.Tie.InvT-loop
 Inv-loop out₀ at width n rest₀ i₀ out rest i =
-    (i ≤ width) × (sets out (at + i) (bytesOf (width - i) rest) ≡ sets out₀ at (bytesOf width n)) × (length out ≡ length out₀)
+    (i ≤ width) × (sets out (at + i) (bytesOf (width - i) rest) ≡ sets out₀ at (bytesOf width n))
+    × (length out ≡ length out₀)
 
 abbrev μ-loop : call.Tie.MeasureT-loop
 μ-loop out₀ at width n rest₀ i₀ out rest i = width - i
@@ -31,12 +32,11 @@ loop-again c =
     )
 
 returns : call.Tie.Need-returns Inv-loop μ-loop
+unfolding bytesOf
 returns c =
     let s = c .before .loop in
-    let a = c .before .before .args in
-    let all : s .i ≡ a .width = omega arith in
-    sym (all-written (s .out) (a .at + s .i) (a .width) (s .rest))
-    ∙ ap (λ (i : ℕ). sets (s .out) (a .at + s .i) (bytesOf (a .width - i) (s .rest))) (sym all) ∙ s .inv .1
+    let none : c .before .before .args .width - s .i ≡ 0 = omega arith in
+    rw none at (s .inv .1)
 
 pub put-number-spec : {M : Type 1} → call.Statement.statement M
 put-number-spec =

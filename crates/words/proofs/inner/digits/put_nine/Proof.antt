@@ -11,14 +11,6 @@ use Rattle.words.specs.Decimal.{inDigits}
 use Rattle.words.proofs.Writing.{nine-digits}
 use Rattle.words.proofs.inner.digits.put_nine as call
 
-put-four-requires : call.Tie.Need-put-four-requires
-put-four-requires c κs = simp length-set (omega arith)
-
-put-four-requires-2 : call.Tie.Need-put-four-requires-2
-put-four-requires-2 c κs =
-    let kept = c .before .before .before .put-four .kept .0 in
-    omega (arith, simp length-set at kept)
-
 same-length : call.Tie.Need-same-length
 same-length c =
     c .before .before .put-four2 .kept .0 ∙ c .before .before .before .before .before .before .put-four .kept .0
@@ -41,8 +33,8 @@ put-nine-spec =
     (λ c. search needs)
     (λ c. search needs)
     (λ c. search needs)
-    put-four-requires
+    (λ c κs. simp length-set (omega arith))
     (λ c. search needs)
-    put-four-requires-2
+    (λ c κs. omega (arith, simp length-set at (c .before .before .before .put-four .kept .0)))
     same-length
     returns)

@@ -6,9 +6,6 @@ use lib.ListN.{length-set}
 use Rattle.words.proofs.Writing.{two-digits}
 use Rattle.words.proofs.inner.digits.put_two as call
 
-slice-write-out-2 : call.Tie.Need-slice-write-out-2
-slice-write-out-2 c = simp length-set (omega arith)
-
 returns : call.Tie.Need-returns
 returns c = two-digits (now (c .args .out)) (c .args .at) (c .args .n) (omega arith)
 
@@ -22,6 +19,6 @@ put-two-spec =
     (λ c. search needs)
     (λ c. search needs)
     (λ c. search needs)
-    slice-write-out-2
+    (λ c. simp length-set (omega arith))
     (λ c. search needs)
     returns)
