@@ -1,6 +1,6 @@
 -- A signed number turned round by the machine: one more than it, then 0 less that, then one more again. The least
 -- number has no other way.
-use mathlib.Core.Path.{_≡_, refl, ap, _∙_}
+use mathlib.Core.Path.{_≡_, refl, sym, ap, _∙_}
 use mathlib.Core.Bool.{true, false}
 use Prim.Native.Nat.{ℕ, zero, suc, _+_, _<_, _^_}
 use native.Mathlib.Omega.{arith}
@@ -13,6 +13,7 @@ use mir.Val.{Fits, SFits, ofZ, toZ}
 use mir.Facts.{toZ-ofZ}
 use Rattle.counts.proofs.Difference.{below}
 use Rattle.counts.specs.Exact.{stepOf}
+use Rattle.counts.specs.declared.sums.Step.{Step}
 use Rattle.counts.specs.declared.sums.Step.the-variants.{Forward, Back}
 
 -- the number as the machine reads it
@@ -32,7 +33,7 @@ up-is k f = ap (λ (z : ℤ). z +ℤ pos 1) (toZ-ofZ f) ∙ one-up k
     one-up zero = refl
     one-up (suc k) = below 1 (suc (suc k)) (omega arith) ∙ ap negsuc (omega arith)
 
-neg-fits : (k : ℕ) → k < 2 ^ 63 → SFits w64 (negℤ (pos k))
+pub neg-fits : (k : ℕ) → k < 2 ^ 63 → SFits w64 (negℤ (pos k))
 neg-fits zero h = record { sfits = omega arith }
 neg-fits (suc k) h = record { sfits = omega arith }
 
@@ -90,16 +91,16 @@ pub back-is : {m : ℕ} (z : ℤ) → Back m ≡ stepOf z → z ≡ negℤ (pos 
 back-is (pos k) e = cc
 back-is (negsuc k) e = cc
 
--- a count and a step
-module _ (n : ℕ) {m : ℕ} (z : ℤ) where
-  pub on-forward : Forward m ≡ stepOf z → pos n +ℤ z ≡ pos (n + m)
-  on-forward e = rw (forward-is z e)
+-- a step as `by_sign` gives it is a sum or a difference, for whatever is made of it
+module _ {A : Type 0} (of : ℤ → A) (n : ℕ) {m : ℕ} {s : Step} (z : ℤ) (is : s ≡ stepOf z) where
+  pub on-forward : s ≡ Forward m → of (pos (n + m)) ≡ of (pos n +ℤ z)
+  on-forward e = rw (forward-is z (sym e ∙ is))
 
-  pub on-back : Back m ≡ stepOf z → pos n +ℤ z ≡ pos n -ℤ pos m
-  on-back e = rw (back-is z e)
+  pub on-back : s ≡ Back m → of (pos n -ℤ pos m) ≡ of (pos n +ℤ z)
+  on-back e = rw (back-is z (sym e ∙ is))
 
-  pub less-forward : Forward m ≡ stepOf z → pos n -ℤ z ≡ pos n -ℤ pos m
-  less-forward e = rw (forward-is z e)
+  pub less-forward : s ≡ Forward m → of (pos n -ℤ pos m) ≡ of (pos n -ℤ z)
+  less-forward e = rw (forward-is z (sym e ∙ is))
 
-  pub less-back : Back m ≡ stepOf z → pos n -ℤ z ≡ pos (n + m)
-  less-back e = rw (back-is z e, negℤ-negℤ (pos m))
+  pub less-back : s ≡ Back m → of (pos (n + m)) ≡ of (pos n -ℤ z)
+  less-back e = rw (back-is z (sym e ∙ is), negℤ-negℤ (pos m))

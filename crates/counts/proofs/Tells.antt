@@ -1,7 +1,6 @@
 -- What an answer says in plain values tells which answer it is.
 use mathlib.Core.Path.{_≡_, ap}
 use lib.IntN.{ℤ}
-use Rattle.refusals.specs.Number.{numberOf}
 use Rattle.refusals.proofs.Tells.{number-tells}
 use Rattle.counts.specs.Answers.{countIn, durationIn, partsIn}
 use Rattle.counts.specs.declared.CountAnswer.{CountAnswer}
@@ -16,27 +15,19 @@ pub count-tells : (x y : CountAnswer) → countIn x ≡ countIn y → x ≡ y
 count-tells (count.Count n) (count.Count m) e = cc
 count-tells (count.Count n) (count.Refused r) e = cc
 count-tells (count.Refused r) (count.Count m) e = cc
-count-tells (count.Refused r) (count.Refused s) e =
-    let same : numberOf r ≡ numberOf s = cc in
-    ap count.Refused (number-tells r s same)
+count-tells (count.Refused r) (count.Refused s) e = ap count.Refused (number-tells r s (cc))
 
 pub duration-number-tells : (x y : Duration) → x .0 ≡ y .0 → x ≡ y
 duration-number-tells x y e = ap (λ (z : ℤ). record { 0 = z }) e
 
 pub duration-tells : (x y : DurationAnswer) → durationIn x ≡ durationIn y → x ≡ y
-duration-tells (duration.Lasts d) (duration.Lasts f) e =
-    let same : d .0 ≡ f .0 = cc in
-    ap duration.Lasts (duration-number-tells d f same)
+duration-tells (duration.Lasts d) (duration.Lasts f) e = ap duration.Lasts (duration-number-tells d f (cc))
 duration-tells (duration.Lasts d) (duration.Refused r) e = cc
 duration-tells (duration.Refused r) (duration.Lasts f) e = cc
-duration-tells (duration.Refused r) (duration.Refused s) e =
-    let same : numberOf r ≡ numberOf s = cc in
-    ap duration.Refused (number-tells r s same)
+duration-tells (duration.Refused r) (duration.Refused s) e = ap duration.Refused (number-tells r s (cc))
 
 pub parts-tells : (x y : PartsAnswer) → partsIn x ≡ partsIn y → x ≡ y
 parts-tells (parts.Parts p) (parts.Parts q) e = cc
 parts-tells (parts.Parts p) (parts.Refused r) e = cc
 parts-tells (parts.Refused r) (parts.Parts q) e = cc
-parts-tells (parts.Refused r) (parts.Refused s) e =
-    let same : numberOf r ≡ numberOf s = cc in
-    ap parts.Refused (number-tells r s same)
+parts-tells (parts.Refused r) (parts.Refused s) e = ap parts.Refused (number-tells r s (cc))

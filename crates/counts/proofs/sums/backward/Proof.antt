@@ -9,6 +9,7 @@ use mir.Syntax.{w64}
 use mir.Val.{SFits, ofZ, toZ}
 use mir.Facts.{toZ-pos, toZ-ofZ}
 use Rattle.refusals.specs.Outcome.{answered}
+use Rattle.counts.proofs.BySign.{neg-fits}
 use Rattle.counts.proofs.Fitting.{is-duration-back, no-duration-back}
 use Rattle.counts.proofs.sums.backward as call
 
@@ -17,11 +18,7 @@ module _ (m : ℕ) (small : m < 2 ^ 63) where
   turned = ap (λ (z : ℤ). pos 0 -ℤ z) (toZ-pos w64 small) ∙ +ℤ-idl (negℤ (pos m))
 
   turned-fits : SFits w64 (pos 0 -ℤ toZ w64 m)
-  turned-fits = rw turned (fits m small)
-    where
-      fits : (m : ℕ) → m < 2 ^ 63 → SFits w64 (negℤ (pos m))
-      fits zero h = record { sfits = omega arith }
-      fits (suc m) h = record { sfits = omega arith }
+  turned-fits = rw turned (neg-fits m small)
 
   one-less : toZ w64 (ofZ w64 (pos 0 -ℤ toZ w64 m)) -ℤ pos 1 ≡ negsuc m
   one-less = ap (λ (z : ℤ). z -ℤ pos 1) (toZ-ofZ turned-fits ∙ turned) ∙ less m
@@ -33,12 +30,6 @@ module _ (m : ℕ) (small : m < 2 ^ 63) where
   one-less-fits : SFits w64 (toZ w64 (ofZ w64 (pos 0 -ℤ toZ w64 m)) -ℤ pos 1)
   one-less-fits = rw one-less (record { sfits = small })
 
-sub-t5 : call.Tie.Need-sub-t5
-sub-t5 c = turned-fits (c .before .args .m) (omega arith)
-
-sub-t6 : call.Tie.Need-sub-t6
-sub-t6 c = one-less-fits (c .before .args .m) (omega arith)
-
 returns : call.Tie.Need-returns
 returns c =
     let m = c .before .args .m in
@@ -49,4 +40,7 @@ returns-2 : call.Tie.Need-returns-2
 returns-2 c = sym (no-duration-back (c .before .args .m) (omega arith))
 
 pub backward-spec : {M : Type 1} → call.Statement.statement M
-backward-spec = call.Tie.close (call.Tie.spec (λ c. search needs) sub-t5 sub-t6 returns returns-2)
+backward-spec =
+    call.Tie.close
+    (call.Tie.spec (search needs) (λ c. turned-fits (c .before .args .m) (omega arith))
+    (λ c. one-less-fits (c .before .args .m) (omega arith)) returns returns-2)

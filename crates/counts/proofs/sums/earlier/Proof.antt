@@ -1,5 +1,5 @@
 -- `earlier`: a difference or a sum, by the sign of the duration.
-use mathlib.Core.Path.{sym, ap, _∙_}
+use mathlib.Core.Path.{_∙_}
 use borrow.Author.Needs.{needs}
 use Rattle.counts.specs.Exact.{countOf}
 use Rattle.counts.proofs.BySign.{less-forward, less-back}
@@ -7,19 +7,17 @@ use Rattle.counts.proofs.sums.earlier as call
 
 returns : call.Tie.Need-returns
 returns c =
-    let arm = c .before .before in
-    let start = arm .before .before .before in
-    c .minus .ensures
-    ∙ sym (ap countOf (less-forward (start .args .n) (start .args .d .0) (sym (arm .m .given .1) ∙ arm .before .before .by-sign .ensures)))
+    let s = c .before .before .before .before in
+    let a = s .before .args in
+    c .minus .ensures ∙ less-forward countOf (a .n) (a .d .0) (s .by-sign .ensures) (c .before .before .m .given .1)
 
 returns-2 : call.Tie.Need-returns-2
 returns-2 c =
-    let arm = c .before .before in
-    let start = arm .before .before .before in
-    c .plus .ensures
-    ∙ sym (ap countOf (less-back (start .args .n) (start .args .d .0) (sym (arm .m2 .given .1) ∙ arm .before .before .by-sign .ensures)))
+    let s = c .before .before .before .before in
+    let a = s .before .args in
+    c .plus .ensures ∙ less-back countOf (a .n) (a .d .0) (s .by-sign .ensures) (c .before .before .m2 .given .1)
 
 pub earlier-spec : {M : Type 1} → call.Statement.statement M
 earlier-spec =
     call.Tie.close
-    (call.Tie.spec (λ c κs. search needs) (λ c. search needs) (λ c κs. search needs) (λ c. search needs) (λ c κs. search needs) returns returns-2)
+    (call.Tie.spec (search needs) (search needs) (search needs) (search needs) (search needs) returns returns-2)

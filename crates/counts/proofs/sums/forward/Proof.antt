@@ -15,4 +15,4 @@ returns-2 : call.Tie.Need-returns-2
 returns-2 c = sym (no-duration (c .before .args .m) (omega arith))
 
 pub forward-spec : {M : Type 1} → call.Statement.statement M
-forward-spec = call.Tie.close (call.Tie.spec (λ c. search needs) returns returns-2)
+forward-spec = call.Tie.close (call.Tie.spec (search needs) returns returns-2)

@@ -1,5 +1,5 @@
 -- `saturating_earlier`: a difference or a sum, by the sign of the duration.
-use mathlib.Core.Path.{sym, ap, _∙_}
+use mathlib.Core.Path.{_∙_}
 use borrow.Author.Needs.{needs}
 use Rattle.counts.specs.Exact.{nearestCount}
 use Rattle.counts.proofs.BySign.{less-forward, less-back}
@@ -7,19 +7,19 @@ use Rattle.counts.proofs.sums.saturating_earlier as call
 
 returns : call.Tie.Need-returns
 returns c =
-    let arm = c .before .before in
-    let start = arm .before .before .before in
+    let s = c .before .before .before .before in
+    let a = s .before .args in
     c .saturating-minus .ensures
-    ∙ sym (ap nearestCount (less-forward (start .args .n) (start .args .d .0) (sym (arm .m .given .1) ∙ arm .before .before .by-sign .ensures)))
+    ∙ less-forward nearestCount (a .n) (a .d .0) (s .by-sign .ensures) (c .before .before .m .given .1)
 
 returns-2 : call.Tie.Need-returns-2
 returns-2 c =
-    let arm = c .before .before in
-    let start = arm .before .before .before in
+    let s = c .before .before .before .before in
+    let a = s .before .args in
     c .saturating-plus .ensures
-    ∙ sym (ap nearestCount (less-back (start .args .n) (start .args .d .0) (sym (arm .m2 .given .1) ∙ arm .before .before .by-sign .ensures)))
+    ∙ less-back nearestCount (a .n) (a .d .0) (s .by-sign .ensures) (c .before .before .m2 .given .1)
 
 pub saturating-earlier-spec : {M : Type 1} → call.Statement.statement M
 saturating-earlier-spec =
     call.Tie.close
-    (call.Tie.spec (λ c κs. search needs) (λ c. search needs) (λ c κs. search needs) (λ c. search needs) (λ c κs. search needs) returns returns-2)
+    (call.Tie.spec (search needs) (search needs) (search needs) (search needs) (search needs) returns returns-2)

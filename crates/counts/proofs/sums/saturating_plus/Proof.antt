@@ -13,4 +13,4 @@ returns-2 : call.Tie.Need-returns-2
 returns-2 c = sym (nearest-is-last (c .before .args .n + c .before .args .m) (omega arith))
 
 pub saturating-plus-spec : {M : Type 1} → call.Statement.statement M
-saturating-plus-spec = call.Tie.close (call.Tie.spec (λ c. search needs) (λ c. search needs) returns returns-2)
+saturating-plus-spec = call.Tie.close (call.Tie.spec (search needs) (search needs) returns returns-2)

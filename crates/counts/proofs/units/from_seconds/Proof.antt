@@ -13,4 +13,4 @@ returns c =
     c .from-seconds-and .ensures ∙ ap (λ (k : ℕ). countOf (pos k)) (add-zero (c .before .args .seconds * second))
 
 pub from-seconds-spec : {M : Type 1} → call.Statement.statement M
-from-seconds-spec = call.Tie.close (call.Tie.spec (λ c κs. search needs) returns)
+from-seconds-spec = call.Tie.close (call.Tie.spec (search needs) returns)

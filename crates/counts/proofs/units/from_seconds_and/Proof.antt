@@ -14,5 +14,4 @@ returns-2 : call.Tie.Need-returns-2
 returns-2 c = sym (no-count (c .before .args .seconds * second + c .before .args .nanos) (omega arith))
 
 pub from-seconds-and-spec : {M : Type 1} → call.Statement.statement M
-from-seconds-and-spec =
-    call.Tie.close (call.Tie.spec (λ c. search needs) (λ c κs. search needs) returns returns-2)
+from-seconds-and-spec = call.Tie.close (call.Tie.spec (search needs) (search needs) returns returns-2)

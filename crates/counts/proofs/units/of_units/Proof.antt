@@ -31,11 +31,4 @@ returns-3 c =
 pub of-units-spec : {M : Type 1} → call.Statement.statement M
 of-units-spec =
     call.Tie.close
-    (call.Tie.spec
-    (λ c. search needs)
-    returns
-    returns-2
-    mul-from-seconds-and
-    add-from-seconds-and
-    (λ c κs. search needs)
-    returns-3)
+    (call.Tie.spec (search needs) returns returns-2 mul-from-seconds-and add-from-seconds-and (search needs) returns-3)

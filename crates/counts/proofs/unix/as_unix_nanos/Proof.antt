@@ -15,5 +15,4 @@ returns-2 : call.Tie.Need-returns-2
 returns-2 c = ap pos (sym (min-eq-right (omega arith)))
 
 pub as-unix-nanos-spec : {M : Type 1} → call.Statement.statement M
-as-unix-nanos-spec =
-    call.Tie.close (call.Tie.spec (λ c. search needs) (λ c. search needs) (λ c. search needs) returns returns-2)
+as-unix-nanos-spec = call.Tie.close (call.Tie.spec (search needs) (search needs) (search needs) returns returns-2)

@@ -9,4 +9,4 @@ returns : call.Tie.Need-returns
 returns c = toZ-pos w64 (omega arith)
 
 pub as-unix-seconds-spec : {M : Type 1} → call.Statement.statement M
-as-unix-seconds-spec = call.Tie.close (call.Tie.spec (λ c. search needs) (λ c. search needs) returns)
+as-unix-seconds-spec = call.Tie.close (call.Tie.spec (search needs) (search needs) returns)

@@ -29,4 +29,4 @@ returns-2 c =
 
 pub from-unix-nanos-spec : {M : Type 1} → statement M
 from-unix-nanos-spec =
-    tie.close (tie.spec (λ c κs. search needs) (λ c. search needs) (λ c κs. search needs) (λ c. search needs) returns returns-2)
+    tie.close (tie.spec (search needs) (search needs) (search needs) (search needs) returns returns-2)

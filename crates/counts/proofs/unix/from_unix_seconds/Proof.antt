@@ -34,12 +34,4 @@ returns-3 c =
 
 pub from-unix-seconds-spec : {M : Type 1} → statement M
 from-unix-seconds-spec =
-    tie.close
-    (tie.spec
-    (λ c κs. search needs)
-    (λ c. search needs)
-    (λ c κs. search needs)
-    (λ c. search needs)
-    returns
-    returns-2
-    returns-3)
+    tie.close (tie.spec (search needs) (search needs) (search needs) (search needs) returns returns-2 returns-3)
