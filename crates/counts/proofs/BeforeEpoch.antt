@@ -1,11 +1,12 @@
 -- A Unix number less the offset of the UTC epoch: no count where it lies before that epoch.
-use mathlib.Core.Path.{_≡_, refl, ap, _∙_}
+use mathlib.Core.Path.{_≡_, refl, sym, ap, _∙_}
 use Prim.Native.Nat.{ℕ, zero, suc, _+_, _-_, _*_, _≤_, _<_}
 use native.Mathlib.Omega.{arith}
 use lib.IntN.{ℤ, pos, negsuc, negℤ, _-ℤ_, _*ℤ_}
 use Rattle.refusals.specs.Outcome.{refused}
 use Rattle.counts.specs.Exact.{countOf, stepOf}
 use Rattle.counts.specs.Units.{second}
+use Rattle.counts.specs.declared.sums.Step.{Step}
 use Rattle.counts.specs.declared.sums.Step.the-variants.{Forward, Back}
 use Rattle.counts.proofs.BySign.{forward-is, back-is}
 use Rattle.counts.proofs.Difference.{below, not-below, of-naturals}
@@ -13,31 +14,27 @@ use Rattle.counts.proofs.Difference.{below, not-below, of-naturals}
 -- a number that is not above 0, less a number above 0
 negative-less : (m k : ℕ) → 0 < k → negℤ (pos m) -ℤ pos k ≡ negsuc (m + k - 1)
 negative-less zero k h = of-naturals 0 k ∙ below 0 k h ∙ ap negsuc (omega arith)
-negative-less (suc m) zero h = absurd (never h)
-  where
-    never : 0 < 0 → ⊥
-    never h = omega arith
+negative-less (suc m) zero h = absurd (omega (arith, h))
 negative-less (suc m) (suc k) h = ap negsuc (omega arith)
 
 seconds-below : (j : ℕ) → countOf (negsuc j *ℤ pos second) ≡ refused 1
 seconds-below j = of-negative (suc j * second) (omega arith)
   where
     of-negative : (k : ℕ) → 0 < k → countOf (negℤ (pos k)) ≡ refused 1
-    of-negative zero h = absurd (never h)
-      where
-        never : 0 < 0 → ⊥
-        never h = omega arith
+    of-negative zero h = absurd (omega (arith, h))
     of-negative (suc k) h = refl
 
-module _ (offset : ℕ) (later : 0 < offset) {m : ℕ} (z : ℤ) where
-  pub back-nanos : Back m ≡ stepOf z → refused 1 ≡ countOf (z -ℤ pos offset)
-  back-nanos e = rw (back-is z e, negative-less m offset later)
+module _ (offset : ℕ) (later : 0 < offset) {m : ℕ} {s : Step} (z : ℤ) (is : s ≡ stepOf z) where
+  pub back-nanos : s ≡ Back m → refused 1 ≡ countOf (z -ℤ pos offset)
+  back-nanos e = rw (back-is z (sym e ∙ is), negative-less m offset later)
 
-  pub back-seconds : Back m ≡ stepOf z → refused 1 ≡ countOf ((z -ℤ pos offset) *ℤ pos second)
-  back-seconds e = rw (back-is z e, negative-less m offset later, seconds-below (m + offset - 1))
+  pub back-seconds : s ≡ Back m → refused 1 ≡ countOf ((z -ℤ pos offset) *ℤ pos second)
+  back-seconds e = rw (back-is z (sym e ∙ is), negative-less m offset later, seconds-below (m + offset - 1))
 
-  pub early-seconds : Forward m ≡ stepOf z → m < offset → refused 1 ≡ countOf ((z -ℤ pos offset) *ℤ pos second)
-  early-seconds e h = rw (forward-is z e, of-naturals m offset, below m offset h, seconds-below (offset - suc m))
+  pub early-seconds : s ≡ Forward m → m < offset → refused 1 ≡ countOf ((z -ℤ pos offset) *ℤ pos second)
+  early-seconds e h =
+      rw (forward-is z (sym e ∙ is), of-naturals m offset, below m offset h, seconds-below (offset - suc m))
 
-  pub seconds-from : Forward m ≡ stepOf z → offset ≤ m → (z -ℤ pos offset) *ℤ pos second ≡ pos ((m - offset) * second)
-  seconds-from e h = rw (forward-is z e, of-naturals m offset, not-below m offset h)
+  pub seconds-from : s ≡ Forward m → offset ≤ m
+      → countOf (pos ((m - offset) * second)) ≡ countOf ((z -ℤ pos offset) *ℤ pos second)
+  seconds-from e h = rw (forward-is z (sym e ∙ is), of-naturals m offset, not-below m offset h)

@@ -18,12 +18,6 @@ returns c = simp (le-leb _ _ (c .if1 .taken))
 returns-2 : call.Tie.Need-returns-2
 returns-2 c = simp (lt-leb _ _ (c .before .if1 .left), le-leb _ _ (c .if2 .taken))
 
-mul-from-seconds-and : call.Tie.Need-mul-from-seconds-and
-mul-from-seconds-and c = omega (arith, product c)
-
-add-from-seconds-and : call.Tie.Need-add-from-seconds-and
-add-from-seconds-and c = omega (arith, product c)
-
 returns-3 : call.Tie.Need-returns-3
 returns-3 c =
     c .from-seconds-and .ensures ∙ simp (lt-leb _ _ (c .before .before .if1 .left), lt-leb _ _ (c .before .if2 .left))
@@ -31,4 +25,5 @@ returns-3 c =
 pub of-units-spec : {M : Type 1} → call.Statement.statement M
 of-units-spec =
     call.Tie.close
-    (call.Tie.spec (search needs) returns returns-2 mul-from-seconds-and add-from-seconds-and (search needs) returns-3)
+    (call.Tie.spec (search needs) returns returns-2 (λ c. omega (arith, product c)) (λ c. omega (arith, product c))
+    (search needs) returns-3)

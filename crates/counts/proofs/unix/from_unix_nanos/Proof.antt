@@ -3,9 +3,8 @@
 use mathlib.Core.Path.{_≡_, sym, ap, _∙_}
 use native.Mathlib.Omega.{arith}
 use borrow.Author.Needs.{needs}
-use lib.IntN.{ℤ, pos, _-ℤ_}
 use mir.Facts.{toZ-ofZ}
-use Rattle.counts.specs.Exact.{countOf, stepOf}
+use Rattle.counts.specs.Exact.{stepOf}
 use Rattle.counts.proofs.BySign.{forward-is}
 use Rattle.counts.proofs.BeforeEpoch.{back-nanos}
 use Rattle.counts.proofs.unix.from_unix_nanos.Statement.{statement}
@@ -18,14 +17,13 @@ signed c = c .by-sign .ensures ∙ ap stepOf (toZ-ofZ (c .before .fits .nanos))
 returns : tie.Need-returns
 returns c =
     let arm = c .before .before in
-    let called = arm .before .before in
-    c .minus .ensures
-    ∙ ap (λ (z : ℤ). countOf (z -ℤ pos 63072000000000000)) (sym (forward-is (called .before .args .nanos) (sym (arm .n .given .1) ∙ signed called)))
+    let z = arm .before .before .before .args .nanos in
+    rw (forward-is z (sym (arm .n .given .1) ∙ signed (arm .before .before))) (c .minus .ensures)
 
 returns-2 : tie.Need-returns-2
 returns-2 c =
-    let called = c .before .before in
-    back-nanos 63072000000000000 (omega arith) (called .before .args .nanos) (sym (c .enum-told .given .1) ∙ signed called)
+    let z = c .before .before .before .args .nanos in
+    back-nanos 63072000000000000 (omega arith) z (signed (c .before .before)) (c .enum-told .given .1)
 
 pub from-unix-nanos-spec : {M : Type 1} → statement M
 from-unix-nanos-spec =
