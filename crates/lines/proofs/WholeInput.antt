@@ -1,7 +1,7 @@
 -- What is written for a whole input is the answers to its lines, wherever it is cut: a piece goes on with the line that
 -- those before it left begun.
 use mathlib.Core.Path.{_≡_, refl, sym, ap, _∙_}
-use mathlib.Core.Bool.{Bool, true, false, cond}
+use mathlib.Core.Bool.{Bool, true, false}
 use mathlib.Core.List.{List, [], _∷_, _++_, append-nil, append-assoc}
 use Prim.Native.Nat.{ℕ, _≤_, _<_}
 use native.Mathlib.Decide.{decLe}
@@ -71,20 +71,18 @@ module _ {longest : ℕ} (f : List ℕ → List ℕ) (are : AnswersLines longest
   ended-line (x ∷ xs) ls =
       ap (λ (k : List ℕ). k ++ answers f ls) (are .first-128 (x ∷ xs) ∙ ap f (sym (append-nil (x ∷ xs))))
 
-  from-line : (s u : List ℕ)
-      → written f (take 128 u) s ++ atEnd f (begunAfter (take 128 u) s) ≡ answers f (before u (linesOf s))
+  -- after u the bytes s have written the answers to the lines of both
+  abbrev Answered : List ℕ → List ℕ → Type 0
+  Answered s u = written f (take 128 u) s ++ atEnd f (begunAfter (take 128 u) s) ≡ answers f (before u (linesOf s))
+
+  from-line : (s u : List ℕ) → Answered s u
   from-line [] u = last-line u
-  from-line (b ∷ s) u = by-byte (eqb b 10) refl (from-line s []) (from-line s (u ++ (b ∷ [])))
+  from-line (b ∷ s) u = by-byte (eqb b 10) refl (from-line s)
     where
-      by-byte : (t : Bool) → eqb b 10 ≡ t
-          → written f [] s ++ atEnd f (begunAfter [] s) ≡ answers f (linesOf s)
-          → written f (take 128 (u ++ (b ∷ []))) s ++ atEnd f (begunAfter (take 128 (u ++ (b ∷ []))) s) ≡ answers f (before (u ++ (b ∷ [])) (linesOf s))
-          → written f (take 128 u) (b ∷ s) ++ atEnd f (begunAfter (take 128 u) (b ∷ s)) ≡ answers f (before u (linesOf (b ∷ s)))
-      by-byte true e fresh on =
-          rw e (append-assoc (f (take 128 u)) (written f [] s) (atEnd f (begunAfter [] s)) ∙ ap (λ (k : List ℕ). f (take 128 u) ++ k) fresh ∙ ended-line u (linesOf s))
-      by-byte false e fresh on =
-          ap (λ (k : List ℕ). (cond (eqb b 10) (f (take 128 u)) [] ++ written f k s) ++ atEnd f (begunAfter k s)) (clipped u b e)
-          ∙ rw e (on ∙ ap (answers f) (before-byte u b (linesOf s)))
+      by-byte : (t : Bool) → eqb b 10 ≡ t → ((v : List ℕ) → Answered s v) → Answered (b ∷ s) u
+      by-byte true e rest =
+          rw (e, append-assoc (f (take 128 u)) (written f [] s), rest []) (ended-line u (linesOf s))
+      by-byte false e rest = rw (clipped u b e, e) (rest (u ++ (b ∷ [])) ∙ ap (answers f) (before-byte u b (linesOf s)))
 
   pub cut-anywhere : CutAnywhere f
   cut-anywhere blocks = all-at-once f [] blocks ∙ from-line (joined blocks) []

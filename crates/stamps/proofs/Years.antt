@@ -6,10 +6,10 @@ use native.Mathlib.Omega.{arith}
 use lib.Dec.{T, leb, leb→le, ltb→lt}
 use lib.IntN.{ℤ, pos, negsuc, natAbs}
 use lib.Signed.{ltZ}
-use Rattle.calendar.specs.Calendar.{Date, on, leap, daysIn, unixEpoch, dateOf}
+use Rattle.calendar.specs.Calendar.{Date, on, leap, daysIn, dateOf}
 use Rattle.calendar.specs.Formula.{era, yoe, doy, doe, formula}
 use Rattle.calendar.proofs.Tested.{every, at}
-use Rattle.calendar.proofs.RealDates.{Real, real}
+use Rattle.calendar.proofs.RealDates.{real}
 use Rattle.calendar.proofs.CalendarTheorems.{real-date, date-of-day}
 use Rattle.calendar.proofs.DateOrder.{Before, by-year, by-month, by-day, later-dates}
 use Rattle.civil.specs.Fields.{dateIn, fieldsOf}
@@ -17,21 +17,10 @@ use Rattle.refusals.specs.Outcome.{answered}
 use Rattle.stamps.specs.Form.{Fits, written, stampRead}
 use Rattle.stamps.proofs.WayBack.{written-reads}
 
-first-day : dateOf (pos 0) ≡ unixEpoch
-unfolding dateOf
-first-day = refl
-
 -- the last date whose year has four digits, and its Unix day
-abbrev lastDate : Date
-lastDate = on (pos 9999) 12 31
-
-last-real : Real lastDate
-unfolding daysIn
-last-real = real lastDate tt
-
-last-day : dateOf (pos 2932896) ≡ lastDate
-unfolding era yoe doy doe formula
-last-day = date-of-day lastDate last-real
+last-day : dateOf (pos 2932896) ≡ on (pos 9999) 12 31
+unfolding daysIn era yoe doy doe formula
+last-day = date-of-day (on (pos 9999) 12 31) (real (on (pos 9999) 12 31) tt)
 
 -- where a date is before another, its year is, or is the same
 by-years : {a b : Date} {P : Type 0} → (T (ltZ (a .year) (b .year)) → P) → (a .year ≡ b .year → P) → Before a b → P
@@ -61,9 +50,10 @@ module _ (n : ℕ) (count : n < 2 ^ 64) where
   date = dateIn (fieldsOf n)
 
   year-is : date .year ≡ pos (natAbs (date .year))
+  unfolding dateOf
   year-is =
       by-years (natural (date .year)) (λ e. subst (λ (y : ℤ). y ≡ pos (natAbs y)) e refl)
-      (subst (λ (d : Date). Before d date) first-day (later-dates 0 day (omega arith)))
+      (later-dates 0 day (omega arith))
 
   four-digits : natAbs (date .year) < 10 ^ 4
   four-digits =

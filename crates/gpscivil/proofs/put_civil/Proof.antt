@@ -1,15 +1,12 @@
 -- `put_civil`: the form, and the line end after it.
-use mathlib.Core.Path.{refl, sym, ap, subst, _∙_}
+use mathlib.Core.Path.{refl, sym, subst}
 use mathlib.Core.List.{[], _∷_}
 use native.Mathlib.Omega.{arith}
 use borrow.Author.Needs.{needs}
 use denote.Ref.{now}
-use lib.Seq.{sets}
 use Rattle.words.proofs.Stores.{joined}
-use Rattle.stamps.specs.Form.{Fits, written}
+use Rattle.stamps.specs.Form.{Fits}
 use Rattle.stamps.proofs.Years.{fits-form}
-use Rattle.civil.specs.Fields.{fieldsOf}
-use Rattle.civil.specs.declared.CivilDateTime.{CivilDateTime}
 use Rattle.gpscivil.specs.Answer.{civilOf}
 use Rattle.gpscivil.proofs.put_civil as call
 
@@ -23,8 +20,8 @@ unfolding civilOf
 returns c =
     let put = c .before .before in
     let a = put .before .before .before .before .args in
-    let form = put .put .ensures ∙ ap (λ (f : CivilDateTime). sets (now (a .out)) 0 (written f)) (put .before .to-civil .ensures) in
-    (refl, joined (now (a .out)) 0 30 (written (fieldsOf (a .utc .0))) (10 ∷ []) form refl refl)
+    let form = rw (put .before .to-civil .ensures) at (put .put .ensures) in
+    (refl, joined (now (a .out)) 0 30 (civilOf (a .utc .0)) (10 ∷ []) form refl refl)
 
 -- to-civil-requires, put-requires, slice-write-out, same-length, returns
 pub put-civil-spec : {M : Type 1} → call.Statement.statement M

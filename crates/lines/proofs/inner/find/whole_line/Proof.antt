@@ -3,8 +3,9 @@ use mathlib.Core.Path.{_≡_}
 use native.Mathlib.Nat.{sub-zero}
 use borrow.Author.Needs.{needs}
 use denote.Ref.{now}
+use lib.Dec.{lit≤}
+use lib.Seq.{take-take}
 use Rattle.lines.specs.Pieces.{lineUpTo}
-use Rattle.lines.proofs.Blocks.{kept}
 use Rattle.lines.proofs.inner.find.whole_line as call
 
 returns : call.Tie.Need-returns
@@ -17,7 +18,7 @@ returns-2 c =
     let call = c .before .before .before .before in
     let a = call .before .before .before .before .before .args in
     let l = lineUpTo (now (a .line)) (a .used) (now (a .block)) (a .at) (a .end) in
-    rw (sub-zero (call .keep .result)) (kept l (call .keep .last .0) (call .keep .result) (call .keep .ensures))
+    rw (sub-zero (call .keep .result), call .keep .ensures .0) (take-take 128 128 l (lit≤ tt))
 
 -- sub-result, part-result-start, part-result-end, returns, keep-requires, sub-result-2, part-result-start-2,
 -- part-result-end-2, returns-2

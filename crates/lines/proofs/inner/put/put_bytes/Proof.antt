@@ -1,7 +1,7 @@
 -- `put_bytes`. The invariant: the first `i` bytes are written.
-use mathlib.Core.Path.{_≡_, refl, sym, ap, _∙_}
+use mathlib.Core.Path.{_≡_, refl, ap, _∙_}
 use mathlib.Core.List.{[], _∷_}
-use Prim.Native.Nat.{ℕ, _+_, _-_, _≤_}
+use Prim.Native.Nat.{_+_, _-_, _≤_}
 use native.Mathlib.Numerals.{add-one}
 use native.Mathlib.Omega.{arith}
 use borrow.Author.Needs.{needs}
@@ -24,9 +24,8 @@ loop-again c =
     let i = at-loop .loop .i in
     let s = now (a .s) in
     let place : a .at + i ≡ a .at + length (take i s) = omega (arith, length-take-le i s (omega arith)) in (
-      joined (now (a .out)) (a .at) (a .at + i) (take i s) (getD s i 0 ∷ []) (at-loop .loop .inv .0) place refl
-          ∙ ap (sets (now (a .out)) (a .at)) (sym (take-suc s i 0 (omega arith)))
-          ∙ ap (λ (k : ℕ). sets (now (a .out)) (a .at) (take k s)) (sym (add-one i)),
+      rw (add-one i, take-suc s i 0 (omega arith))
+          (joined (now (a .out)) (a .at) (a .at + i) (take i s) (getD s i 0 ∷ []) (at-loop .loop .inv .0) place refl),
       omega arith,
       simp length-set (at-loop .loop .inv .2),
     )
