@@ -40,17 +40,12 @@ use denote.Triple.Clauses.{Lasts, lasts, atExit}
 use denote.Triple.Entry.{onEntry, alive}
 use denote.Triple.Spec.{Meets, tripleOf}
 use denote.Triple.Table.{entered, cited}
-use denote.Triple.Walked.{Stays, walkOf, Walks, ends-at, walked, walk-meets}
+use denote.Triple.Walked.{walkOf, ends-at, walked, walk-meets}
 use Rattle.libc.specs.declared.types.timespec.{timespec}
 use Rattle.libc.proofs.types.timespec as S
 use Rattle.libc.proofs.types.timespec.Laws as S′
 use Rattle.libc.proofs.nanosleep as one
-use Rattle.libc.proofs.nanosleep.Symbol as one-def
-use Rattle.libc.proofs.nanosleep.Symbol.{name as #one}
-use Rattle.libc.proofs.nanosleep.Met as one-thm
-use Rattle.lines.proofs.inner.streams.pause.Key.{name as #this}
 use Rattle.lines.proofs.inner.streams.pause as this
-use Rattle.lines.proofs.inner.streams.pause.Statement as stated
 use Rattle.lines.proofs.inner.streams.pause.Code as code
 
 abbrev sv : timespec → Val
@@ -92,11 +87,8 @@ module _ {M : Type 1} (𝓤 : URA M) (H : Heap 𝓤) (A : Atoms 𝓤) (W : Given
   abbrev One : Contract 𝓤
   One = tripleOf 𝓤 H A one.signature (one.spec 𝓤 H A at-mem run)
 
-  abbrev stayed : Stays (this.ended .signature .params) (this.ended .kept)
-  stayed = tt
-
   abbrev Post : Val → SProp 𝓤
-  Post = walkOf 𝓤 H A this.ended stayed (this.clauses 𝓤 H A at-mem run) .post ((tt, tt, tt, tt, tt), tt)
+  Post = walkOf 𝓤 H A this.ended tt (this.clauses 𝓤 H A at-mem run) .post ((tt, tt, tt, tt, tt), tt)
 
   -- the references that are made, and what the callee is handed: both and their tokens
   abbrev x : ℕ → GName → RefT timespec
@@ -131,10 +123,11 @@ module _ {M : Type 1} (𝓤 : URA M) (H : Heap 𝓤) (A : Atoms 𝓤) (W : Given
 
   exits : ent 𝓤 (emp 𝓤) (Post vunit)
   exits =
-      qed W [] ∵ suffices ! _ (ends-at 𝓤 H A this.ended stayed (this.clauses 𝓤 H A at-mem run) W ((tt, tt, tt, tt, tt), tt) vunit tt tt tt) $
+      let clauses = this.clauses 𝓤 H A at-mem run in
+      qed W [] ∵ suffices ! _ (ends-at 𝓤 H A this.ended tt clauses W ((tt, tt, tt, tt, tt), tt) vunit tt tt tt) $
       owned ! Nothing (Is Nothing) (nothing-makes 𝓤 H A W) tt (vunit ∷ []) refl $ nothing ! $ join ! $ nothing ! $ join ! $ nothing ! $ move ! (1 ∷ 0 ∷ []) $ done !
 
-  module _ (𝓣 : Tables 𝓤 H) (known : Triple 𝓤 (𝓣 .C #one) One) where
+  module _ (𝓣 : Tables 𝓤 H) (known : Triple 𝓤 (𝓣 .C one.Symbol.name) One) where
     walk : ent 𝓤 (onEntry 𝓤 H A this.signature tt tt tt tt) (WpFn 𝓤 H (𝓣 .C) (𝓣 .Λ) code.function [] Post)
     walk =
         qed W (‵ ftrue ∷ ‵ (owns [] tt tt) ∷ []) ∵ keep ! [] $ enter ! (𝓣 .C) (𝓣 .Λ) code.function [] _ $
@@ -175,20 +168,21 @@ module _ {M : Type 1} (𝓤 : URA M) (H : Heap 𝓤) (A : Atoms 𝓤) (W : Given
         move ! (11 ∷ 12 ∷ []) $ free1 ! $ move ! (0 ∷ 10 ∷ []) $ free1 ! $ move ! (0 ∷ 8 ∷ []) $ free1 ! $ move ! (5 ∷ 6 ∷ []) $ free1 ! $ move ! (3 ∷ 4 ∷ []) $ free1 ! $ move ! (1 ∷ 2 ∷ []) $ free1 ! $ free0 ! $
         keep ! [] $ by ! exits))))))))))))))))
 
-  module _ (𝓣 : Tables 𝓤 H) (known : Triple 𝓤 (𝓣 .C #one) One) where
-    walks : Walks 𝓤 H A this.ended stayed (WpFn 𝓤 H (𝓣 .C) (𝓣 .Λ) code.function) (this.clauses 𝓤 H A at-mem run)
-    walks = walked 𝓤 H A this.ended stayed (this.clauses 𝓤 H A at-mem run) (WpFn 𝓤 H (𝓣 .C) (𝓣 .Λ) code.function) (λ κs. tt) (λ κs. tt)
-        (λ κs qs bounds a _ are. via 𝓤 _ (fst∗ 𝓤 _ (emp 𝓤)) (walk 𝓣 known))
-
     meets : Meets 𝓤 H A this.signature (WpFn 𝓤 H (𝓣 .C) (𝓣 .Λ) code.function) (this.spec 𝓤 H A at-mem run)
     meets =
-        walk-meets 𝓤 H A this.ended stayed W tt
-        (this.clauses 𝓤 H A at-mem run) (WpFn 𝓤 H (𝓣 .C) (𝓣 .Λ) code.function) (WpFn-mono 𝓤 H (W .laws) 𝓣 code.function) walks
+        let clauses = this.clauses 𝓤 H A at-mem run in
+        let runs = WpFn 𝓤 H (𝓣 .C) (𝓣 .Λ) code.function in
+        walk-meets 𝓤 H A this.ended tt W tt clauses runs (WpFn-mono 𝓤 H (W .laws) 𝓣 code.function)
+        (walked 𝓤 H A this.ended tt clauses runs (λ κs. tt) (λ κs. tt)
+        (λ κs qs bounds a _ are. via 𝓤 _ (fst∗ 𝓤 _ (emp 𝓤)) walk))
 
-pub pause-spec : {M : Type 1} → stated.statement M
+pub pause-spec : {M : Type 1} → this.Statement.statement M
 unfolding code.routine tablesOf
 pause-spec 𝓤 H 𝓜 𝓖 𝓡 =
+    let all = tables 𝓤 H 𝓜 𝓡 code.env in
+    let given = givenOf 𝓤 H 𝓜 𝓖 in
     entered 𝓤 H (tripleOf 𝓤 H (𝓖 .A) this.signature (this.spec 𝓤 H (𝓖 .A) (𝓜 .mem) (𝓡 .run)))
-    (tables 𝓤 H 𝓜 𝓡 code.env .C) (tables 𝓤 H 𝓜 𝓡 code.env .Λ) #this code.function (code.unfolded 𝓤 H 𝓜 𝓡)
-    (meets 𝓤 H (𝓖 .A) (givenOf 𝓤 H 𝓜 𝓖) (𝓜 .mem) (𝓡 .run) (tablesOf 𝓤 H 𝓜 (tables 𝓤 H 𝓜 𝓡 code.env))
-    (cited 𝓤 H (One 𝓤 H (𝓖 .A) (givenOf 𝓤 H 𝓜 𝓖) (𝓜 .mem) (𝓡 .run)) 𝓜 𝓡 code.env #one one-def.routine code.calls-libc·nanosleep (one-thm.met 𝓤 H 𝓜 𝓖 𝓡)))
+    (all .C) (all .Λ) this.Key.name code.function (code.unfolded 𝓤 H 𝓜 𝓡)
+    (meets 𝓤 H (𝓖 .A) given (𝓜 .mem) (𝓡 .run) (tablesOf 𝓤 H 𝓜 all)
+    (cited 𝓤 H (One 𝓤 H (𝓖 .A) given (𝓜 .mem) (𝓡 .run)) 𝓜 𝓡 code.env one.Symbol.name one.Symbol.routine
+    code.calls-libc·nanosleep (one.Met.met 𝓤 H 𝓜 𝓖 𝓡)))
