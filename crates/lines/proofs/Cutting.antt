@@ -20,9 +20,7 @@ begun-joins c (x ∷ a) b = begun-joins (grown c x) a b
 pub written-joins : (f : List ℕ → List ℕ) (c a b : List ℕ)
     → written f c (a ++ b) ≡ written f c a ++ written f (begunAfter c a) b
 written-joins f c [] b = refl
-written-joins f c (x ∷ a) b =
-    ap (λ (l : List ℕ). cond (eqb x 10) (f c) [] ++ l) (written-joins f (grown c x) a b)
-    ∙ sym (append-assoc (cond (eqb x 10) (f c) []) (written f (grown c x) a) (written f (begunAfter (grown c x) a) b))
+written-joins f c (x ∷ a) b = rw (append-assoc, written-joins f (grown c x) a b)
 
 -- ---- of the line that is begun the first 128 bytes are kept
 pub clipped : (u : List ℕ) (b : ℕ) → eqb b 10 ≡ false → grown (take 128 u) b ≡ take 128 (u ++ (b ∷ []))
@@ -40,8 +38,7 @@ clipped u b e = by-length (decLe 128 (length u))
 pub free-begun : (p u : List ℕ) → hasNoEnd p ≡ true → begunAfter (take 128 u) p ≡ take 128 (u ++ p)
 free-begun [] u e = ap (take 128) (sym (append-nil u))
 free-begun (b ∷ p) u e =
-    ap (λ (c : List ℕ). begunAfter c p) (clipped u b (no-end b p e .0)) ∙ free-begun p (u ++ (b ∷ [])) (no-end b p e .1)
-    ∙ ap (take 128) (append-assoc u (b ∷ []) p)
+    rw (clipped u b (no-end b p e .0)) (rw append-assoc at (free-begun p (u ++ (b ∷ [])) (no-end b p e .1)))
 
 pub free-writes : (f : List ℕ → List ℕ) (p c : List ℕ) → hasNoEnd p ≡ true → written f c p ≡ []
 free-writes f [] c e = refl

@@ -43,10 +43,7 @@ all-at-once : (f : List ℕ → List ℕ) (c : List ℕ) (bs : List (List ℕ))
     → writtenByBlocks f c bs ≡ written f c (joined bs) ++ atEnd f (begunAfter c (joined bs))
 all-at-once f c [] = refl
 all-at-once f c (b ∷ bs) =
-    let next = begunAfter c b in
-    ap (λ (l : List ℕ). written f c b ++ l) (all-at-once f next bs)
-    ∙ sym (append-assoc (written f c b) (written f next (joined bs)) (atEnd f (begunAfter next (joined bs))))
-    ∙ (λ i. sym (written-joins f c b (joined bs)) i ++ atEnd f (sym (begun-joins c b (joined bs)) i))
+    rw (written-joins, begun-joins, append-assoc, all-at-once f (begunAfter c b) bs)
 
 -- ---- lines
 -- a line that is begun, before the lines of the rest

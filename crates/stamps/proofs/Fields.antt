@@ -1,18 +1,17 @@
 -- Bytes in the form: the fields that are read fit, and a field is written with its mark.
 use mathlib.Core.Path.{_≡_, refl, _∙_}
-use mathlib.Core.Bool.{true, false, false≢true}
+use mathlib.Core.Bool.{true, false≢true}
 use mathlib.Core.List.{List, [], _∷_, _++_}
 use Prim.Native.Nat.{ℕ, zero, suc, _+_, _^_, _<_}
 use native.Mathlib.Nat.{zero-add}
 use lib.Dec.{lit<}
 use lib.ListN.{length, set, take, drop, replicate, length-replicate}
 use lib.Seq.{sets}
-use Rattle.refusals.specs.Outcome.{answered, refused}
 use Rattle.words.specs.Decimal.{isDigit, allDigits, valueOf, inDigits}
 use Rattle.words.proofs.Stores.{joined}
 use Rattle.words.proofs.Writing.{digits-length}
 use Rattle.words.proofs.WayBack.{first-half, second-half, value-below, digits-of-value}
-use Rattle.stamps.specs.Form.{Fits, field, fieldsAt, first, last, stampRead, within}
+use Rattle.stamps.specs.Form.{Fits, field, fieldsAt, first, last, within}
 use Rattle.stamps.proofs.Between.{as-long, rest-within, start-within}
 
 -- digits lie between zeros and nines
@@ -63,14 +62,6 @@ module _ (s : List ℕ) (formed : within first last s ≡ true) where
         second = below 2 17 refl refl;
         nanos = below 9 20 refl refl;
       }
-
-  pub read-as : stampRead s ≡ answered (fieldsAt s)
-  unfolding stampRead
-  read-as = rw formed
-
-pub refused-as : (s : List ℕ) → within first last s ≡ false → stampRead s ≡ refused 10
-unfolding stampRead
-refused-as s e = rw e
 
 -- a number in k digits, and the mark stored after it
 pub marked : {x : List ℕ} (out : List ℕ) (at k n mark : ℕ) → x ≡ sets out at (inDigits k n)

@@ -17,7 +17,7 @@ use Rattle.words.proofs.Writing.{digits-length}
 use Rattle.words.proofs.WayBack.{first-half, second-half, value-of-digits, digits-are-digits}
 use Rattle.stamps.specs.Form.{Fits, field, fieldsAt, first, last, stampRead, within, written}
 use Rattle.stamps.proofs.Between.{rest-within}
-use Rattle.stamps.proofs.Fields.{digits-before, long, same-digits, read-as}
+use Rattle.stamps.proofs.Fields.{digits-before, long, same-digits}
 
 -- a number in k digits and a mark, before bytes that are within
 before : (k n mark : ℕ) (l h s : List ℕ) → within l h s ≡ true
@@ -48,7 +48,8 @@ module _ (f : CivilDateTime) where
 
   -- reading what was written gives the fields
   pub written-reads : Fits f → stampRead (written f) ≡ answered f
-  written-reads h = read-as (written f) in-form ∙ ap answered (fields-back h)
+  unfolding stampRead
+  written-reads h = rw in-form (ap answered (fields-back h))
 
 -- a mark is the one byte from itself up to itself
 the-mark : (mark : ℕ) (l h s : List ℕ) → within (mark ∷ l) (mark ∷ h) s ≡ true → s ≡ mark ∷ drop 1 s

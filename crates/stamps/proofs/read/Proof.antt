@@ -3,27 +3,24 @@ use mathlib.Core.Path.{sym, ap, _∙_}
 use borrow.Author.Needs.{needs}
 use denote.Ref.{now}
 use Rattle.refusals.specs.Outcome.{answered}
-use Rattle.stamps.specs.Form.{within}
-use Rattle.stamps.proofs.Fields.{fits, long, read-as, refused-as}
+use Rattle.stamps.specs.Form.{stampRead}
+use Rattle.stamps.proofs.Fields.{fits, long}
 use Rattle.stamps.proofs.read as call
 
 fields-requires : call.Tie.Need-fields-requires
 fields-requires c κs =
-    let start = c .before .before .before .before .before .before .before in
+    let s = now (c .before .before .before .before .before .before .before .args .s) in
     let formed = sym (c .before .within .ensures) ∙ c .if1 .taken in
-    (long (now (start .args .s)) formed, (fits (now (start .args .s)) formed, formed))
+    (long s formed, (fits s formed, formed))
 
 returns : call.Tie.Need-returns
-returns c =
-    let test = c .before in
-    let start = test .before .before .before .before .before .before .before in
-    let formed = sym (test .before .within .ensures) ∙ test .if1 .taken in
-    ap answered (c .fields .ensures) ∙ sym (read-as (now (start .args .s)) formed)
+unfolding stampRead
+returns c = rw (sym (c .before .before .within .ensures) ∙ c .before .if1 .taken) (ap answered (c .fields .ensures))
 
 returns-2 : call.Tie.Need-returns-2
-returns-2 c =
-    let start = c .before .before .before .before .before .before .before in
-    sym (refused-as (now (start .args .s)) (sym (c .before .within .ensures) ∙ c .if1 .left))
+unfolding stampRead
+returns-2 c = rw (sym (c .before .within .ensures) ∙ c .if1 .left)
 
+-- within-requires, fields-requires, returns, returns-2
 pub read-spec : {M : Type 1} → call.Statement.statement M
 read-spec = call.Tie.close (call.Tie.spec (λ c κs. search needs) fields-requires returns returns-2)

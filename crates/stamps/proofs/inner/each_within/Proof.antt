@@ -22,13 +22,8 @@ loop-again c =
     let at = c .before .before .before .before .before in
     let a = at .before .before .before .before .args in
     let i = at .loop .i in
-    let rest = within (drop (i + 1) (now (a .low))) (drop (i + 1) (now (a .high))) (drop (i + 1) (now (a .s))) in
-    let turn = opened (now (a .low)) (now (a .high)) (now (a .s)) i (omega arith) (omega arith) (omega arith) in (
-      at .loop .inv .0
-          ∙ ap (λ (t : Bool). at .loop .inside && t) (turn ∙ ap (λ (t : Bool). t && rest) (sym (c .between .ensures)))
-          ∙ sym (and-assoc (at .loop .inside) (c .between .result) rest),
-      omega arith,
-    )
+    let turn = opened (now (a .low)) (now (a .high)) (now (a .s)) i (omega arith) (omega arith) (omega arith) in
+    (rw (c .between .ensures, and-assoc (at .loop .inside)) (rw turn at (at .loop .inv .0)), omega arith)
 
 returns : call.Tie.Need-returns Inv-loop μ-loop
 returns c =

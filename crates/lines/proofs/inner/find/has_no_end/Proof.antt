@@ -21,12 +21,8 @@ loop-again : call.Tie.Need-loop-again Inv-loop μ-loop
 loop-again c =
     let at = c .before .before in
     let s = now (at .before .args .s) in
-    let i = at .loop .i in (
-      at .loop .inv .0
-          ∙ ap (λ (t : Bool). at .loop .none && t) (opened s i (omega arith))
-          ∙ sym (and-assoc (at .loop .none) (not (eqb (getD s i 0) 10)) (hasNoEnd (drop (i + 1) s))),
-      omega arith,
-    )
+    let i = at .loop .i in
+    (rw and-assoc (rw (opened s i (omega arith)) at (at .loop .inv .0)), omega arith)
 
 returns : call.Tie.Need-returns Inv-loop μ-loop
 returns c =
