@@ -1,17 +1,18 @@
 -- The loop of a program over the lines of a block, for any answer: what is known where a line begins, and that it is
 -- known again where the next begins.
-use mathlib.Core.Path.{_≡_, refl, sym, ap, _∙_}
+use mathlib.Core.Path.{_≡_, sym, ap, _∙_}
 use mathlib.Core.List.{List, [], _∷_, _++_, append-nil, append-assoc}
 use Prim.Native.Nat.{ℕ, min, _+_, _-_, _≤_, _<_}
 use native.Mathlib.Nat.{zero-add}
 use native.Mathlib.Numerals.{add-one}
 use native.Mathlib.Omega.{arith}
+use borrow.Author.Needs.{needs}
 use borrow.Author.Tests.{le-ltb}
 use borrow.Rule.Slice.PartMut.{midOf, putMid}
 use lib.ListN.{length, getD, take, drop, length-append, length-drop, length-take, drop-of-length-le}
 use lib.Seq.{sets, sets-eq, length-sets, drop-drop, length-take-le, take-add, take-all, take-at, take-suc, take-take, take-append-add, getD-drop}
 use Rattle.words.proofs.Stores.{joined}
-use Rattle.lines.specs.OutcomeLine.{PutsWithRoom}
+use Rattle.lines.specs.OutcomeLine.{Puts, PutsWithRoom}
 use Rattle.lines.specs.Pieces.{begunAfter, written, untilEnd, Answers, AnswersBlock, lineUpTo, Keeps}
 use Rattle.lines.proofs.LineEnds.{ends-at}
 use Rattle.lines.proofs.Cutting.{begun-joins, written-joins, free-begun, free-writes}
@@ -30,10 +31,9 @@ stored line used s n k long most inside is =
     let same : take k s ≡ take m (take n s)
     = sym (take-take k n s (omega arith)) ∙ sym (take-take k m (take n s) (omega arith))
     ∙ take-all k (take m (take n s)) most in
-    ap (take (used + k)) (sets-eq (take k s) line used (omega arith))
-    ∙ take-at (c ++ take k s) _ (used + k) (omega (arith, length-append c (take k s)))
-    ∙ ap (λ (l : List ℕ). c ++ l) same ∙ sym (take-append-add c (take n s) m)
-    ∙ ap (λ (j : ℕ). take j (c ++ take n s)) room
+    let full : length (c ++ take k s) ≡ used + k = omega (arith, length-append c (take k s)) in
+    rw (sets-eq (take k s) line used (omega arith), take-at (c ++ take k s) _ (used + k) full, same)
+    (rw room at (sym (take-append-add c (take n s) m)))
 
 -- a text written into the part from a place on is written at that place
 in-part : (out text : List ℕ) (at longest : ℕ) {part′ : List ℕ} {n : ℕ} → length text ≤ longest
@@ -64,14 +64,7 @@ pub record AtLine (longest : ℕ) (f : List ℕ → List ℕ) (are : AnswersLine
 pub starts : {longest : ℕ} {f : List ℕ → List ℕ} {are : AnswersLines longest f} {block out₀ line : List ℕ}
     {used end : ℕ} → (length line ≡ 128) × (used ≤ 128) → end ≡ 0 + untilEnd block
     → AtLine longest f are (take used line) block out₀ line out₀ used 0 0 end
-starts given found = record {
-  before = record { held = given .1; begins = refl; writes = (refl, refl) };
-  found = found;
-  inside = omega arith;
-  room = omega arith;
-  line-long = given .0;
-  out-long = refl;
-}
+starts given found = search needs
 
 module _ {longest : ℕ} {f : List ℕ → List ℕ} {are : AnswersLines longest f} {c block out₀ line out : List ℕ}
     {u made at end : ℕ} (here : AtLine longest f are c block out₀ line out u made at end) where
@@ -83,48 +76,36 @@ module _ {longest : ℕ} {f : List ℕ → List ℕ} {are : AnswersLines longest
   theLine = take 128 (lineUpTo line u block at end)
 
   pub end-inside : (at ≤ end) × (end ≤ length block)
-  end-inside = omega (arith, here .found, ends-at (drop at block) .0, length-drop at block)
+  end-inside = omega (arith, ends-at (drop at block) .0, length-drop at block)
 
   -- up to its end the line is begun, and no more is written
   up-to-end : (begunAfter c (take end block) ≡ theLine) × (written f c (take end block) ≡ said)
   up-to-end =
       let start = take at block in
       let piece = take (end - at) (drop at block) in
-      let k : untilEnd (drop at block) ≡ end - at = omega (arith, here .found) in
+      let k : untilEnd (drop at block) ≡ end - at = omega arith in
       let free = rw k at (ends-at (drop at block) .1) in
       let all : at + (end - at) ≡ end = omega (arith, end-inside) in
       let cut = rw all at (take-add at (end - at) block) in
-      let few : length (take u line) ≤ 128 = omega (arith, length-take u line, here .before .held) in
+      let few : length (take u line) ≤ 128 = omega (arith, length-take u line) in
       let held = sym (here .before .begins) ∙ sym (take-all 128 (take u line) few) in (
-        ap (begunAfter c) cut ∙ begun-joins c start piece
-            ∙ ap (λ (l : List ℕ). begunAfter l piece) held ∙ free-begun piece (take u line) free,
-        ap (written f c) cut ∙ written-joins f c start piece
-            ∙ rw (free-writes f piece (begunAfter c start) free) (append-nil said),
+        rw (cut, begun-joins c start piece, held) (free-begun piece (take u line) free),
+        rw (cut, written-joins f c start piece, free-writes f piece (begunAfter c start) free) (append-nil said),
       )
 
   -- there is no room for an answer
   pub stops : length out - made < longest
       → AnswersBlock longest f c block out₀ line out (record { used = u; taken = at; made = made })
-  stops h = record {
-    within = here .inside;
-    room = here .room;
-    taken = here .before;
-    all = λ r. omega (arith, here .out-long);
-  }
+  stops h = search needs
 
   -- the block has no more line end
   pub ends : length block ≤ end → {line′ : List ℕ} {used′ : ℕ} → Keeps (lineUpTo line u block at end) line′ used′
       → AnswersBlock longest f c block out₀ line′ out (record { used = used′; taken = end; made = made })
-  ends none keeps = record {
-    within = end-inside .1;
-    room = here .room;
-    taken = record {
-      held = keeps .1;
-      begins = keeps .0 ∙ sym (up-to-end .0);
-      writes = rw (up-to-end .1) (here .before .writes);
-    };
-    all = λ r. omega (arith, end-inside .1);
-  }
+  ends none keeps =
+      let inside = end-inside in
+      let begins = keeps .0 ∙ sym (up-to-end .0) in
+      let writes = rw (← up-to-end .1) at (here .before .writes) in
+      search needs
 
   -- the line is answered, in the room after the answers before it
   module _ (room : longest ≤ length out - made) (text : List ℕ) {part′ : List ℕ} {n : ℕ}
@@ -133,35 +114,27 @@ module _ {longest : ℕ} {f : List ℕ → List ℕ} {are : AnswersLines longest
     out′ = putMid made (length out - made) out part′
 
     answer : (n ≡ length (f text)) × (out′ ≡ sets out made (f text))
-    answer = in-part out (f text) made longest (are .short text) (omega (arith, here .room, here .out-long)) puts
+    answer = in-part out (f text) made longest (are .short text) (omega arith) puts
 
     pub fits : made + n ≤ length out₀
-    fits = omega (arith, answer .0, are .short text, here .room, here .out-long)
+    fits = omega (arith, answer .0, are .short text)
 
     pub next : end < length block → take 128 text ≡ theLine → {line′ : List ℕ} → length line′ ≡ length line → {end′ : ℕ}
         → end′ ≡ end + 1 + untilEnd (drop (end + 1) block)
         → AtLine longest f are c block out₀ line′ out′ 0 (made + n) (end + 1) end′
     next h is as-long found =
         let rest = drop at block in
-        let ends = ends-at rest .2 (omega (arith, here .found, length-drop at block)) in
+        let ends = ends-at rest .2 (omega (arith, length-drop at block)) in
         let ten : getD block end 0 ≡ 10 = rw (here .found) (sym (getD-drop at block (untilEnd rest) 0) ∙ ends) in
         let cut : take (end + 1) block ≡ take end block ++ (10 ∷ []) = rw (add-one, take-suc block end 0 h, ten) in
         let all : written f c (take (end + 1) block) ≡ said ++ f text
-        = ap (written f c) cut ∙ written-joins f c (take end block) (10 ∷ [])
-        ∙ rw (up-to-end .1, append-nil (f (begunAfter c (take end block))), up-to-end .0, ← is, are .first-128 text) in
+        = rw (cut, written-joins, up-to-end .1, append-nil, up-to-end .0, ← is, are .first-128 text) in
+        let begins : [] ≡ begunAfter c (take (end + 1) block) = rw (cut, begun-joins) in
         let before = here .before .writes in
-        record {
-          before = record {
-            held = omega arith;
-            begins = sym (ap (begunAfter c) cut ∙ begun-joins c (take end block) (10 ∷ []));
-            writes = rw all (
-              omega (arith, answer .0, before .0, length-append said (f text)),
-              joined out₀ 0 made said (f text) (before .1) (omega (arith, before .0)) (answer .1),
-            );
-          };
-          found = found;
-          inside = omega arith;
-          room = fits;
-          line-long = as-long ∙ here .line-long;
-          out-long = ap length (answer .1) ∙ length-sets out made (f text) ∙ here .out-long;
-        }
+        let writes : Puts (written f c (take (end + 1) block)) out₀ out′ (made + n) = rw all (
+          omega (arith, answer .0, length-append said (f text)),
+          joined out₀ 0 made said (f text) (before .1) (omega (arith, before .0)) (answer .1),
+        ) in
+        let room = fits in
+        let out-long : length out′ ≡ length out = ap length (answer .1) ∙ length-sets out made (f text) in
+        search needs

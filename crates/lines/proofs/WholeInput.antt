@@ -42,8 +42,7 @@ CutAnywhere f = (blocks : List (List ℕ)) → writtenByBlocks f [] blocks ≡ a
 all-at-once : (f : List ℕ → List ℕ) (c : List ℕ) (bs : List (List ℕ))
     → writtenByBlocks f c bs ≡ written f c (joined bs) ++ atEnd f (begunAfter c (joined bs))
 all-at-once f c [] = refl
-all-at-once f c (b ∷ bs) =
-    rw (written-joins, begun-joins, append-assoc, all-at-once f (begunAfter c b) bs)
+all-at-once f c (b ∷ bs) = rw (written-joins, begun-joins, append-assoc, all-at-once f (begunAfter c b) bs)
 
 -- ---- lines
 -- a line that is begun, before the lines of the rest
@@ -61,12 +60,11 @@ before-byte (x ∷ xs) b (l ∷ ls) = ap (λ (k : List ℕ). (x ∷ k) ∷ ls) (
 module _ {longest : ℕ} (f : List ℕ → List ℕ) (are : AnswersLines longest f) where
   last-line : (u : List ℕ) → atEnd f (take 128 u) ≡ answers f (before u [])
   last-line [] = refl
-  last-line (x ∷ xs) = ap (λ (k : List ℕ). k ++ []) (are .first-128 (x ∷ xs))
+  last-line (x ∷ xs) = rw (are .first-128 (x ∷ xs))
 
   ended-line : (u : List ℕ) (ls : List (List ℕ)) → f (take 128 u) ++ answers f ls ≡ answers f (before u ([] ∷ ls))
   ended-line [] ls = refl
-  ended-line (x ∷ xs) ls =
-      ap (λ (k : List ℕ). k ++ answers f ls) (are .first-128 (x ∷ xs) ∙ ap f (sym (append-nil (x ∷ xs))))
+  ended-line (x ∷ xs) ls = rw (append-nil, are .first-128 (x ∷ xs))
 
   -- after u the bytes s have written the answers to the lines of both
   abbrev Answered : List ℕ → List ℕ → Type 0
@@ -77,8 +75,7 @@ module _ {longest : ℕ} (f : List ℕ → List ℕ) (are : AnswersLines longest
   from-line (b ∷ s) u = by-byte (eqb b 10) refl (from-line s)
     where
       by-byte : (t : Bool) → eqb b 10 ≡ t → ((v : List ℕ) → Answered s v) → Answered (b ∷ s) u
-      by-byte true e rest =
-          rw (e, append-assoc (f (take 128 u)) (written f [] s), rest []) (ended-line u (linesOf s))
+      by-byte true e rest = rw (e, append-assoc (f (take 128 u)) (written f [] s), rest []) (ended-line u (linesOf s))
       by-byte false e rest = rw (clipped u b e, e) (rest (u ++ (b ∷ [])) ∙ ap (answers f) (before-byte u b (linesOf s)))
 
   pub cut-anywhere : CutAnywhere f

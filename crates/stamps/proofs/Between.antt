@@ -1,6 +1,6 @@
 -- Bytes between two others: what is tested of a list is tested of its parts.
 use mathlib.Core.Path.{_≡_, refl, sym, ap, _∙_}
-use mathlib.Core.Bool.{Bool, true, false, _&&_, and-assoc, false≢true, not-eq-not}
+use mathlib.Core.Bool.{true, false, _&&_, and-assoc, false≢true, not-eq-not}
 use mathlib.Core.List.{List, [], _∷_}
 use Prim.Native.Nat.{ℕ, zero, suc, _+_, _<_}
 use native.Mathlib.Numerals.{add-one}
@@ -28,10 +28,7 @@ cut (suc n) [] h [] = refl
 cut (suc n) [] h (b ∷ s) = refl
 cut (suc n) (x ∷ l) [] s = refl
 cut (suc n) (x ∷ l) (y ∷ h) [] = refl
-cut (suc n) (x ∷ l) (y ∷ h) (b ∷ s) =
-    let here = leb x b && leb b y in
-    ap (λ (t : Bool). here && t) (cut n l h s)
-    ∙ sym (and-assoc here (within (take n l) (take n h) (take n s)) (within (drop n l) (drop n h) (drop n s)))
+cut (suc n) (x ∷ l) (y ∷ h) (b ∷ s) = rw (cut n l h s) (sym (and-assoc (leb x b && leb b y) _ _))
 
 module _ (n : ℕ) (l h s : List ℕ) (e : within l h s ≡ true) where
   pub start-within : within (take n l) (take n h) (take n s) ≡ true

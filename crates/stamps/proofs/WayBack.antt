@@ -67,12 +67,10 @@ module _ (s : List ℕ) (formed : within first last s ≡ true) where
       → drop (at + k) first ≡ mark ∷ l → drop (at + k) last ≡ mark ∷ h
       → drop at s ≡ field k (valueOf (take k (drop at s))) mark ++ drop (at + k + 1) s
   piece k at mark l h zeros nines low high =
-      let rest = drop (at + k) s in
-      let marked : rest ≡ mark ∷ drop (at + k + 1) s = the-mark mark l h rest (rw (low, high) at (rest-within (at + k) first last s formed)) ∙ ap (λ (t : List ℕ). mark ∷ t) (drop-drop 1 (at + k) s) in
-      sym (take-append-drop k (drop at s))
-      ∙ ap (λ (t : List ℕ). take k (drop at s) ++ t) (drop-drop k at s ∙ marked)
-      ∙ ap (λ (t : List ℕ). t ++ (mark ∷ drop (at + k + 1) s)) (sym (same-digits s formed k at zeros nines))
-      ∙ sym (append-assoc (inDigits k (valueOf (take k (drop at s)))) (mark ∷ []) (drop (at + k + 1) s))
+      let rest = rw (low, high) at (rest-within (at + k) first last s formed) in
+      let marked = rw (drop-drop 1 (at + k) s) at (the-mark mark l h (drop (at + k) s) rest) in
+      rw (append-assoc, same-digits s formed k at zeros nines, ← marked, ← drop-drop k at s)
+      (sym (take-append-drop k (drop at s)))
 
   -- writing what was read gives the bytes
   pub read-writes : written (fieldsAt s) ≡ s

@@ -3,6 +3,7 @@ use mathlib.Core.Path.{_≡_, refl, ap, subst}
 use mathlib.Core.Bool.{Bool, true, false}
 use Prim.Native.Nat.{ℕ, _+_, _/_, _<_, _^_}
 use native.Mathlib.Omega.{arith}
+use borrow.Author.Needs.{needs}
 use lib.Dec.{T, leb, leb→le, ltb→lt}
 use lib.IntN.{ℤ, pos, negsuc, natAbs}
 use lib.Signed.{ltZ}
@@ -68,16 +69,9 @@ module _ (n : ℕ) (count : n < 2 ^ 64) where
       let l = leap (date .year) in
       let tested = at (short l) 13 (tested-short l) (date .month) (omega (arith, r .month-to)) in
       let most = leb→le (daysIn l (date .month)) 31 tested in
-      record {
-        natural = year-is;
-        year = four-digits;
-        month = omega (arith, r .month-to);
-        day = omega (arith, r .day-to, most);
-        hour = omega arith;
-        minute = omega arith;
-        second = omega arith;
-        nanos = omega arith;
-      }
+      let is = year-is in
+      let few = four-digits in
+      search needs
 
   pub form-reads-back : stampRead (written (fieldsOf n)) ≡ answered (fieldsOf n)
   form-reads-back = written-reads (fieldsOf n) fits-form

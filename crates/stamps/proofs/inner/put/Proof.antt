@@ -1,30 +1,25 @@
 -- `put`: seven fields, each from where the one before ends.
-use mathlib.Core.Path.{_≡_, refl, sym, ap, subst, _∙_}
-use Prim.Native.Nat.{_+_, _<_, _^_}
+use mathlib.Core.Path.{_≡_, refl}
+use Prim.Native.Nat.{_+_}
 use native.Mathlib.Omega.{arith}
 use borrow.Author.Needs.{needs}
 use denote.Ref.{now}
-use lib.IntN.{ℤ, pos, natAbs}
 use lib.ListN.{take}
-use lib.Seq.{sets}
 use mir.Facts.{toZ-ofZ}
 use mir.Syntax.{w32}
-use mir.Val.{SFits, toZ, ofZ}
+use mir.Val.{toZ, ofZ}
 use Rattle.words.proofs.Stores.{joined}
 use Rattle.stamps.specs.Form.{field, written}
 use Rattle.stamps.proofs.inner.put as call
 
 -- the year as the machine has it
 read : (s : call.Tie.Start) → toZ w32 (ofZ w32 (s .args .f .year)) ≡ s .args .f .year
-read s =
-    let f = s .pre .1 in
-    toZ-ofZ (subst (SFits w32) (sym (f .natural)) (record { sfits = omega (arith, f .year) }))
+read s = let f = s .pre .1 in toZ-ofZ (rw (f .natural) (record { sfits = omega (arith, f .year) }))
 
 put-year-and-requires : call.Tie.Need-put-year-and-requires
 put-year-and-requires c κs =
     let s = c .before .before .before in
-    let f = s .pre .1 in
-    (subst (λ (z : ℤ). z ≡ pos (natAbs z)) (sym (read s)) (f .natural), (subst (λ (z : ℤ). natAbs z < 10 ^ 4) (sym (read s)) (f .year), omega arith))
+    rw (read s) (s .pre .1 .natural, (s .pre .1 .year, omega arith))
 
 returns : call.Tie.Need-returns
 returns c =
@@ -40,8 +35,7 @@ returns c =
     let at = a .at in
     let f = a .f in
     let all = written f in
-    let machine = ap (λ (z : ℤ). sets out at (field 4 (natAbs z) 45)) (read (p1 .before .before .before .before)) in
-    let year = p1 .put-year-and .ensures ∙ machine in
+    let year = rw (read (p1 .before .before .before .before)) at (p1 .put-year-and .ensures) in
     let month = joined out at (at + 5) (take 5 all) (field 2 (f .month) 45) year refl (p2 .put-two-and .ensures) in
     let day = joined out at (at + 8) (take 8 all) (field 2 (f .day) 84) month refl (p3 .put-two-and2 .ensures) in
     let hour = joined out at (at + 11) (take 11 all) (field 2 (f .hour) 58) day refl (p4 .put-two-and3 .ensures) in

@@ -1,17 +1,12 @@
 -- The year is not negative, so the cast keeps its four digits; the mark follows them.
-use mathlib.Core.Path.{_≡_, sym, ap, subst, _∙_}
-use Prim.Native.Nat.{_<_, _^_}
+use mathlib.Core.Path.{_≡_, _∙_}
 use native.Mathlib.Omega.{arith}
 use borrow.Author.Needs.{needs}
 use denote.Ref.{now}
-use lib.Dec.{T}
-use lib.IntN.{ℤ, pos, natAbs}
-use lib.Seq.{sets}
-use lib.Signed.{nonNeg}
+use lib.IntN.{pos, natAbs}
 use mir.Facts.{toZ-ofZ}
 use mir.Syntax.{w32}
-use mir.Val.{Fits, toZ, ofZ}
-use Rattle.words.specs.Decimal.{inDigits}
+use mir.Val.{toZ, ofZ}
 use Rattle.stamps.proofs.Fields.{marked}
 use Rattle.stamps.proofs.inner.put_year_and as call
 
@@ -20,23 +15,17 @@ read : (s : call.Tie.Start) → toZ w32 (ofZ w32 (s .args .year)) ≡ pos (natAb
 read s = toZ-ofZ (s .fits .year) ∙ s .pre .0
 
 cast-put-four : call.Tie.Need-cast-put-four
-cast-put-four c =
-    let s = c .before .before in
-    let few : Fits w32 (natAbs (s .args .year)) = record { fits = omega (arith, s .pre .1 .0) } in
-    subst (λ (z : ℤ). T (nonNeg z) × Fits w32 (natAbs z)) (sym (read s)) (tt, few)
+cast-put-four c = let s = c .before .before in rw (read s) (tt, record { fits = omega (arith, s .pre .1 .0) })
 
 put-four-requires : call.Tie.Need-put-four-requires
-put-four-requires c κs =
-    let s = c .before .before in
-    (subst (λ (z : ℤ). natAbs z < 10 ^ 4) (sym (read s)) (s .pre .1 .0), omega arith)
+put-four-requires c κs = let s = c .before .before in rw (read s) (s .pre .1 .0, omega arith)
 
 returns : call.Tie.Need-returns
 returns c =
     let put = c .before .before in
     let start = put .before .before .before in
     let a = start .args in
-    let digits = ap (λ (z : ℤ). sets (now (a .out)) (a .at) (inDigits 4 (natAbs z))) (read start) in
-    marked (now (a .out)) (a .at) 4 (natAbs (a .year)) (a .mark) (put .put-four .ensures ∙ digits)
+    marked (now (a .out)) (a .at) 4 (natAbs (a .year)) (a .mark) (rw (read start) at (put .put-four .ensures))
 
 -- cast-put-four, put-four-requires, add-out, slice-write-out, same-length, returns
 pub put-year-and-spec : {M : Type 1} → call.Statement.statement M

@@ -1,12 +1,11 @@
 -- `has_no_end`. The invariant: no byte ends a line where none before `i` does, and none from `i` on.
-use mathlib.Core.Path.{_≡_, refl, sym, ap, _∙_}
-use mathlib.Core.Bool.{Bool, not, _&&_, and-true, and-assoc}
-use Prim.Native.Nat.{_+_, _-_, _≤_}
+use mathlib.Core.Path.{_≡_, refl, sym, _∙_}
+use mathlib.Core.Bool.{_&&_, and-true, and-assoc}
+use Prim.Native.Nat.{_-_, _≤_}
 use native.Mathlib.Omega.{arith}
 use borrow.Author.Needs.{needs}
 use denote.Ref.{now}
-use lib.Dec.{eqb}
-use lib.ListN.{length, getD, drop, drop-of-length-le}
+use lib.ListN.{length, drop, drop-of-length-le}
 use Rattle.lines.specs.Pieces.{hasNoEnd}
 use Rattle.lines.proofs.LineEnds.{opened}
 use Rattle.lines.proofs.inner.find.has_no_end as call
