@@ -1,49 +1,14 @@
 -- `is_empty` makes the pass and reads whether the count is 0 off it.
-use mathlib.Core.Path.{_≡_, _∙_}
-use mathlib.Core.List.{List}
-use lib.Dec.{eqb}
-use lib.ListN.{length}
-use contract.Running.{givenOf, tables, tablesOf}
-use denote.Enum.Laws as EL
-use denote.Triple.Spec.{tripleOf}
-use denote.Triple.Table.{entered, cited}
-use Rattle.refusals.specs.Outcome.{answered}
+use Rattle.lent.proofs.Walking.{refl, tablesOf}
 use Rattle.tables.specs.Answers.{emptyIn}
-use Rattle.tables.specs.declared.LeapEntry.{LeapEntry}
-use Rattle.tables.specs.declared.EmptyAnswer.{EmptyAnswer}
-use Rattle.tables.proofs.EmptyAnswer as R
-use Rattle.tables.proofs.EmptyAnswer.Laws as R′
-use Rattle.lent.specs.Lists.{ofValidList}
-use Rattle.lent.specs.Pass.{ofTaken}
-use Rattle.lent.specs.declared.inner.Pass.{Pass}
-use Rattle.lent.proofs.inner.pass_over.Symbol as over-def
-use Rattle.lent.proofs.inner.pass_over.Symbol.{name as #over}
-use Rattle.lent.proofs.inner.pass_over.Met as over-thm
-use Rattle.lent.proofs.inner.emptiness.Symbol as read-def
-use Rattle.lent.proofs.inner.emptiness.Symbol.{name as #read}
-use Rattle.lent.proofs.inner.emptiness.Met as read-thm
-use Rattle.lent.proofs.PassAndReader.{Passing, Reading}
-use Rattle.lent.proofs.Readers.{meets}
+use Rattle.lent.proofs.Values.{an-emptiness}
+use Rattle.lent.proofs.Readers.{reads-off}
 use Rattle.lent.proofs.AnswersByPass.{emptiness-read}
-use Rattle.lent.proofs.is_empty.Key.{name as #this}
+use Rattle.lent.proofs.inner.emptiness as read
 use Rattle.lent.proofs.is_empty as this
-use Rattle.lent.proofs.is_empty.Statement as stated
-use Rattle.lent.proofs.is_empty.Code as code
 
-abbrev θ : Pass → EmptyAnswer → Type 0
-θ p r = emptyIn r ≡ ofTaken (p .answer) (answered (eqb (p .count) 0))
-
-abbrev ψ : List LeapEntry → EmptyAnswer → Type 0
-ψ ys r = emptyIn r ≡ ofValidList ys (answered (eqb (length ys) 0))
-
-pub is-empty-spec : {M : Type 1} → stated.statement M
-unfolding code.routine tablesOf
+pub is-empty-spec : {M : Type 1} → this.Statement.statement M
+unfolding this.Code.routine tablesOf
 is-empty-spec 𝓤 H 𝓜 𝓖 𝓡 =
-    let A = 𝓖 .A in
-    let W = givenOf 𝓤 H 𝓜 𝓖 in
-    entered 𝓤 H (tripleOf 𝓤 H A this.signature (this.spec 𝓤 H A (𝓜 .mem) (𝓡 .run)))
-    (tables 𝓤 H 𝓜 𝓡 code.env .C) (tables 𝓤 H 𝓜 𝓡 code.env .Λ) #this code.function (code.unfolded 𝓤 H 𝓜 𝓡)
-    (meets R.the-row R′.mir #read θ ψ (λ ys p r said is. is ∙ emptiness-read 0 ys p said) 𝓤 H A W (λ r v g. EL.lawful R.the-type R′.the-laws 𝓤 H A W tt .typed r _ g .0)
-    (𝓜 .mem) (𝓡 .run) (tablesOf 𝓤 H 𝓜 (tables 𝓤 H 𝓜 𝓡 code.env))
-    (cited 𝓤 H (Passing 𝓤 H A (𝓜 .mem) (𝓡 .run)) 𝓜 𝓡 code.env #over over-def.routine code.calls-lent·inner·pass-over (over-thm.met 𝓤 H 𝓜 𝓖 𝓡))
-    (cited 𝓤 H (Reading R.the-row θ 𝓤 H A) 𝓜 𝓡 code.env #read read-def.routine code.calls-lent·inner·emptiness (read-thm.met 𝓤 H 𝓜 𝓖 𝓡)))
+    reads-off an-emptiness refl emptyIn (emptiness-read 0) 𝓤 H 𝓜 𝓖 𝓡 this.Code.env this.Key.name read.Symbol.name read.Symbol.routine
+    (this.Code.unfolded 𝓤 H 𝓜 𝓡) this.Code.calls-lent·inner·pass-over this.Code.calls-lent·inner·emptiness (read.Met.met 𝓤 H 𝓜 𝓖 𝓡)

@@ -1,48 +1,14 @@
 -- `last_update` makes the pass and reads the last threshold off it.
-use mathlib.Core.Path.{_≡_, _∙_}
-use mathlib.Core.List.{List}
-use contract.Running.{givenOf, tables, tablesOf}
-use denote.Enum.Laws as EL
-use denote.Triple.Spec.{tripleOf}
-use denote.Triple.Table.{entered, cited}
-use Rattle.refusals.specs.Outcome.{answered}
+use Rattle.lent.proofs.Walking.{refl, tablesOf}
 use Rattle.tables.specs.Answers.{updateIn}
-use Rattle.tables.specs.Entries.{lastUpdate}
-use Rattle.tables.specs.declared.LeapEntry.{LeapEntry}
-use Rattle.tables.specs.declared.UpdateAnswer.{UpdateAnswer}
-use Rattle.tables.proofs.UpdateAnswer as R
-use Rattle.tables.proofs.UpdateAnswer.Laws as R′
-use Rattle.lent.specs.Lists.{ofValidList}
-use Rattle.lent.specs.Pass.{ofTaken, updateAt}
-use Rattle.lent.specs.declared.inner.Pass.{Pass}
-use Rattle.lent.proofs.inner.pass_over.Symbol as over-def
-use Rattle.lent.proofs.inner.pass_over.Symbol.{name as #over}
-use Rattle.lent.proofs.inner.pass_over.Met as over-thm
-use Rattle.lent.proofs.inner.update.Symbol as read-def
-use Rattle.lent.proofs.inner.update.Symbol.{name as #read}
-use Rattle.lent.proofs.inner.update.Met as read-thm
-use Rattle.lent.proofs.PassAndReader.{Passing, Reading}
-use Rattle.lent.proofs.Readers.{meets}
+use Rattle.lent.proofs.Values.{an-update}
+use Rattle.lent.proofs.Readers.{reads-off}
 use Rattle.lent.proofs.AnswersByPass.{update-read}
-use Rattle.lent.proofs.last_update.Key.{name as #this}
+use Rattle.lent.proofs.inner.update as read
 use Rattle.lent.proofs.last_update as this
-use Rattle.lent.proofs.last_update.Statement as stated
-use Rattle.lent.proofs.last_update.Code as code
 
-abbrev θ : Pass → UpdateAnswer → Type 0
-θ p r = updateIn r ≡ ofTaken (p .answer) (answered (updateAt (p .count) (p .last)))
-
-abbrev ψ : List LeapEntry → UpdateAnswer → Type 0
-ψ ys r = updateIn r ≡ ofValidList ys (answered (lastUpdate ys))
-
-pub last-update-spec : {M : Type 1} → stated.statement M
-unfolding code.routine tablesOf
+pub last-update-spec : {M : Type 1} → this.Statement.statement M
+unfolding this.Code.routine tablesOf
 last-update-spec 𝓤 H 𝓜 𝓖 𝓡 =
-    let A = 𝓖 .A in
-    let W = givenOf 𝓤 H 𝓜 𝓖 in
-    entered 𝓤 H (tripleOf 𝓤 H A this.signature (this.spec 𝓤 H A (𝓜 .mem) (𝓡 .run)))
-    (tables 𝓤 H 𝓜 𝓡 code.env .C) (tables 𝓤 H 𝓜 𝓡 code.env .Λ) #this code.function (code.unfolded 𝓤 H 𝓜 𝓡)
-    (meets R.the-row R′.mir #read θ ψ (λ ys p r said is. is ∙ update-read 0 ys p said) 𝓤 H A W (λ r v g. EL.lawful R.the-type R′.the-laws 𝓤 H A W tt .typed r _ g .0)
-    (𝓜 .mem) (𝓡 .run) (tablesOf 𝓤 H 𝓜 (tables 𝓤 H 𝓜 𝓡 code.env))
-    (cited 𝓤 H (Passing 𝓤 H A (𝓜 .mem) (𝓡 .run)) 𝓜 𝓡 code.env #over over-def.routine code.calls-lent·inner·pass-over (over-thm.met 𝓤 H 𝓜 𝓖 𝓡))
-    (cited 𝓤 H (Reading R.the-row θ 𝓤 H A) 𝓜 𝓡 code.env #read read-def.routine code.calls-lent·inner·update (read-thm.met 𝓤 H 𝓜 𝓖 𝓡)))
+    reads-off an-update refl updateIn (update-read 0) 𝓤 H 𝓜 𝓖 𝓡 this.Code.env this.Key.name read.Symbol.name read.Symbol.routine
+    (this.Code.unfolded 𝓤 H 𝓜 𝓡) this.Code.calls-lent·inner·pass-over this.Code.calls-lent·inner·update (read.Met.met 𝓤 H 𝓜 𝓖 𝓡)

@@ -15,7 +15,6 @@ use denote.Struct.Laws as LL
 use Rattle.tables.specs.Entries.{offset}
 use Rattle.tables.specs.declared.LeapEntry.{LeapEntry}
 use Rattle.tables.proofs.LeapEntry as E
-use Rattle.tables.proofs.LeapEntry.Laws as E′
 use Rattle.lent.specs.Pass.{Seen, seenIn, begun, after, passed}
 use Rattle.lent.specs.declared.inner.Pass.{Pass}
 use Rattle.lent.proofs.inner.Pass as P
@@ -69,7 +68,7 @@ module _ (t : ℕ) (ys : List LeapEntry) where
       module _ (ge : Is E.the-row at-i (ev at-i ∷ [])) (p : Pass) (g : Is P.the-row p (pv p ∷ [])) (is : seenIn p ≡ after (seenIn (s .pass)) at-i) where
         pub one-more-fits : (k : ℕ) → k < s .i + 1 → Dec (k < s .i) → SFits w32 (offset (getD ys k noEntry))
         one-more-fits k l (yes h) = s .fits k h
-        one-more-fits k l (no h) = let e : k ≡ s .i = omega (arith, l, h) in rw e (record { sfits = LL.owed E.the-type E′.the-laws at-i _ ge .1 .0 .1 })
+        one-more-fits k l (no h) = let e : k ≡ s .i = omega (arith, l, h) in rw e (record { sfits = LL.owed E.the-type E.Laws.the-laws at-i _ ge .1 .0 .1 })
 
         abbrev pub next : State t ys
         next = record {
@@ -84,8 +83,8 @@ module _ (t : ℕ) (ys : List LeapEntry) where
           fits = λ k l. one-more-fits k l (decLt k (s .i));
         }
 
-    pub ends : T (not (ltb (s .i) (length ys))) → Said t ys (s .pass)
-    ends y =
+    pub all-seen : T (not (ltb (s .i) (length ys))) → Said t ys (s .pass)
+    all-seen y =
         let h = nltb→le (s .i) (length ys) y in
         let all = sym (at-end ys (seenIn (s .pass)) (s .i) h) ∙ s .comes in
         (all, ap (λ (x : Seen). eqb (x .refusal) 0) all ∙ ap (λ (k : ℕ). eqb k 0) (first-found t ys) ∙ none-refused ys (λ k l. s .fits k (omega (arith, h))))
