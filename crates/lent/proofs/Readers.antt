@@ -1,6 +1,6 @@
 -- A call on a lent list that makes the pass at the reading 0 and reads its answer off it: the code meets the contract,
 -- over the answer's type, the reader and what the two contracts say.
-use mathlib.Core.Path.{subst, _∙_}
+use mathlib.Core.Path.{_∙_}
 use lib.Dec.{lit<}
 use prog.Model.{Model}
 use prog.Routine.{Env as Routines}
@@ -8,7 +8,6 @@ use prog.Wp.{Closed}
 use contract.Running.{GhostRules, Running}
 use package.mir.Syntax.{local, valueLocal, return, place, copy, int}
 use contract.Monad.{factI}
-use denote.Laws.{Typed}
 use denote.Plain.{uint-makes}
 use denote.Builtin.{u64}
 use denote.Triple.Walked.{Walks}
@@ -66,7 +65,7 @@ reading τ #read = record {
       (seq (call #read (copy (place 2 []) ∷ []) (place 0 [])) return);
 }
 
-module _ {R : RattleType} (ν : Valued R) {τ : Ty} (one : R .mir ≡ τ ∷ []) {X : Type 0} (view : R .Denot → X) {f : Pass → X} {g : List LeapEntry → X} (law : (ys : List LeapEntry) (p : Pass) → Said 0 ys p → f p ≡ g ys)
+module _ {R : RattleType} (ν : Valued R) {X : Type 0} (view : R .Denot → X) {f : Pass → X} {g : List LeapEntry → X} (law : (ys : List LeapEntry) (p : Pass) → Said 0 ys p → f p ≡ g ys)
     {M : Type 1} (𝓤 : URA M) (H : Heap 𝓤) (A : Atoms 𝓤) (W : Given 𝓤 H A) (𝓣 : Tables 𝓤 H) (#read : Name) (known-over : Triple 𝓤 (𝓣 .C over.Symbol.name) (Passing 𝓤 H A)) (known-read : Triple 𝓤 (𝓣 .C #read) (Reading R view f 𝓤 H A)) where
   abbrev T : Ended
   T = listed R [] tt
@@ -74,34 +73,31 @@ module _ {R : RattleType} (ν : Valued R) {τ : Ty} (one : R .mir ≡ τ ∷ [])
   abbrev c : Clauses 𝓤 T
   c = lists R [] tt 𝓤 H A (λ κs a r. view r ≡ g (a .0 .now))
 
-  typed : (r : R .Denot) → Is R r (ν .val r ∷ []) → Typed (τ ∷ []) (ν .val r ∷ [])
-  typed r is = subst (λ (τs : List Ty). Typed τs (ν .val r ∷ [])) one (ν .typed W r is)
-
-  walks : Walks 𝓤 H A T (let-go T) (WpFn 𝓤 H (𝓣 .C) (𝓣 .Λ) (reading τ #read)) c
-  walks = walked 𝓤 H A T (let-go T) c (WpFn 𝓤 H (𝓣 .C) (𝓣 .Λ) (reading τ #read)) (λ κs. (slice-vals, tt)) (λ κs. (shr-slice-tells (named 0) (κs .0) E.the-row, tt)) (λ κs qs bounds a _ are.
+  walks : Walks 𝓤 H A T (let-go T) (WpFn 𝓤 H (𝓣 .C) (𝓣 .Λ) (reading (ν .mir) #read)) c
+  walks = walked 𝓤 H A T (let-go T) c (WpFn 𝓤 H (𝓣 .C) (𝓣 .Λ) (reading (ν .mir) #read)) (λ κs. (slice-vals, tt)) (λ κs. (shr-slice-tells (named 0) (κs .0) E.the-row, tt)) (λ κs qs bounds a _ are.
       let κ = κs .0 in
       let q = qs .0 in
       let x = a .0 in
       qed W ((Token 𝓤 A κ q ⊛ (‵ (List& κ x) ⊛ ‵ ftrue)) ∷ raw (emp 𝓤) ∷ []) ∵ split ! $ move ! (1 ∷ 0 ∷ []) $ split ! $ move ! (0 ∷ 2 ∷ []) $
-      enters ! (𝓣 .C) (𝓣 .Λ) (reading τ #read) (slice-vals x) _ (λ l₀ l₁ l₂. params1 ! $
+      enters ! (𝓣 .C) (𝓣 .Λ) (reading (ν .mir) #read) (slice-vals x) _ (λ l₀ l₁ l₂. params1 ! $
       pass1 ! (init ! 2 refl (tt, (tt, (record { fits = are .0 .0 .1 .0 }, tt)))) $ pass0 ! $ move ! (6 ∷ 7 ∷ []) $
       -- [the list; the token; _2 at 2; _1 at 4; _0 at 6]
       asks P.the-row (plain (λ _. u64) ∷ []) (yes, tt) 𝓤 H A _ κ q x (0, tt) (vint w64 0 ∷ [], tt) ! (fmOf 𝓤 H (W .laws) 𝓣) known-over
       (uint-makes 𝓤 H A W w64, tt) ((refl, lit< tt), tt) a-pass (and-then ! (held ! 4 refl) (and-then ! (lit ! tt) (no-more !))) (λ p said gp.
-      lands-at ! 2 refl (a-pass .typed W p gp .0) $
+      lands-at ! 2 refl (a-pass .typed W p gp) $
       calls-plain ! (fmOf 𝓤 H (W .laws) 𝓣) (reader R view f 𝓤) (reads R view f 𝓤) known-read ((tt, tt, tt, (p, tt), (pv p ∷ [], tt)), tt)
-      (a-pass .makes 𝓤 H A, tt) (gp, tt) (id⊢ 𝓤 _) (id⊢ 𝓤 _) (λ r. view r ≡ f p) (λ r ws. id⊢ 𝓤 _) ν (arg ! 3 refl) (λ r is gr.
-      lands-at ! 6 refl (typed r gr .0) $ returns ! (look ! 6 refl) $ frees-at ! 6 refl $ frees-at ! 4 refl $ frees-at ! 2 refl $ free0 ! $
-      owned ! R (Is R) (ν .makes 𝓤 H A) r (ν .val r ∷ []) gr $ keep ! (2 ∷ 0 ∷ []) $
+      (a-pass .makes W, tt) (gp, tt) (id⊢ 𝓤 _) (id⊢ 𝓤 _) (λ r. view r ≡ f p) (λ r ws. id⊢ 𝓤 _) ν (arg ! 3 refl) (λ r is gr.
+      lands-at ! 6 refl (ν .typed W r gr) $ returns ! (look ! 6 refl) $ frees-at ! 6 refl $ frees-at ! 4 refl $ frees-at ! 2 refl $ free0 ! $
+      owned ! R (Is R) (ν .makes W) r (ν .val r ∷ []) gr $ keep ! (2 ∷ 0 ∷ []) $
       by ! (ends 𝓤 H A T c ((κs, qs, bounds, a, (slice-vals x, tt)), tt) W (ν .val r) r (tt, tt) (factI 𝓤 _ (emp 𝓤) (is ∙ law (x .now) p said)))))))
 
-module _ {R : RattleType} (ν : Valued R) {τ : Ty} (one : R .mir ≡ τ ∷ []) {X : Type 0} (view : R .Denot → X) {f : Pass → X} {g : List LeapEntry → X} (law : (ys : List LeapEntry) (p : Pass) → Said 0 ys p → f p ≡ g ys) where
+module _ {R : RattleType} (ν : Valued R) {X : Type 0} (view : R .Denot → X) {f : Pass → X} {g : List LeapEntry → X} (law : (ys : List LeapEntry) (p : Pass) → Said 0 ys p → f p ≡ g ys) where
   pub reads-off : {M : Type 1} (𝓤 : URA M) (H : Heap 𝓤) (𝓜 : Model 𝓤 H) (𝓖 : GhostRules 𝓤 H) (𝓡 : Running 𝓤 H 𝓜) (γ : Routines)
-      (k #read : Name) (r : Routine) → Closed 𝓤 H (tables 𝓤 H 𝓜 𝓡 γ .C) (tables 𝓤 H 𝓜 𝓡 γ .Λ) k (reading τ #read)
+      (k #read : Name) (r : Routine) → Closed 𝓤 H (tables 𝓤 H 𝓜 𝓡 γ .C) (tables 𝓤 H 𝓜 𝓡 γ .Λ) k (reading (ν .mir) #read)
       → γ over.Symbol.name ≡ over.Symbol.routine → γ #read ≡ r → Triple 𝓤 (𝓡 .run r) (Reading R view f 𝓤 H (𝓖 .A))
       → Triple 𝓤 (tables 𝓤 H 𝓜 𝓡 γ .C k) (Viewing R view g 𝓤 H (𝓖 .A))
   unfolding tablesOf
   reads-off 𝓤 H 𝓜 𝓖 𝓡 γ k #read r closed is-over is-read met =
-      by-walk-let-go 𝓤 H 𝓜 𝓖 𝓡 γ (listed R [] tt) (lists R [] tt 𝓤 H (𝓖 .A) (λ κs a r. view r ≡ g (a .0 .now))) k (reading τ #read) closed ((λ κs x w. refl), tt)
-      (walks ν one view law 𝓤 H (𝓖 .A) (givenOf 𝓤 H 𝓜 𝓖) (tablesOf 𝓤 H 𝓜 (tables 𝓤 H 𝓜 𝓡 γ)) #read
+      by-walk-let-go 𝓤 H 𝓜 𝓖 𝓡 γ (listed R [] tt) (lists R [] tt 𝓤 H (𝓖 .A) (λ κs a r. view r ≡ g (a .0 .now))) k (reading (ν .mir) #read) closed ((λ κs x w. refl), tt)
+      (walks ν view law 𝓤 H (𝓖 .A) (givenOf 𝓤 H 𝓜 𝓖) (tablesOf 𝓤 H 𝓜 (tables 𝓤 H 𝓜 𝓡 γ)) #read
       (cited 𝓤 H _ 𝓜 𝓡 γ over.Symbol.name _ is-over (over.Met.met 𝓤 H 𝓜 𝓖 𝓡)) (cited 𝓤 H _ 𝓜 𝓡 γ #read _ is-read met))

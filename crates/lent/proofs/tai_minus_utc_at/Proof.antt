@@ -49,20 +49,20 @@ module _ {M : Type 1} (𝓤 : URA M) (H : Heap 𝓤) (A : Atoms 𝓤) (W : Given
         move ! (1 ∷ 0 ∷ []) $ split ! $ move ! (0 ∷ 2 ∷ []) $
         enters ! (𝓣 .C) (𝓣 .Λ) this.Code.function _ _ (λ l₀ l₁ l₂ l₃. params1 ! $
         pass1 ! (init ! 4 refl (tt, (tt, (record { fits = gn .0 }, tt)))) $
-        pass1 ! (init ! 2 refl (a-reading .typed W z gz .0)) $ pass0 ! $ move ! (8 ∷ 9 ∷ []) $
+        pass1 ! (init ! 2 refl (a-reading .typed W z gz)) $ pass0 ! $ move ! (8 ∷ 9 ∷ []) $
         -- [the list; the token; _3 at 2; _2 at 4; _1 at 6; _0 at 8]
         asks P.the-row (plain (λ _. u64) ∷ []) (yes, tt) 𝓤 H A _ κ q x (z .0, tt) (vint w64 (z .0) ∷ [], tt)
         ! (fmOf 𝓤 H (W .laws) 𝓣) known-over (uint-makes 𝓤 H A W w64, tt)
         (struct.owed Z.the-type Z.Laws.the-laws z _ gz .0, tt) a-pass
         (and-then ! (held ! 6 refl)
         (and-then ! (load ! (from ! (fld ! refl (stop !))) (look-in ! 4 (sub ! 0 refl (whole !)))) (no-more !))) (λ p said g.
-        lands-at ! 2 refl (a-pass .typed W p g .0) $
+        lands-at ! 2 refl (a-pass .typed W p g) $
         calls-plain ! (fmOf 𝓤 H (W .laws) 𝓣) read.ended (read.clauses 𝓤 H A at-mem run) known-read
-        ((tt, tt, tt, (p, tt), (pv p ∷ [], tt)), tt) (a-pass .makes 𝓤 H A, tt) (g, tt) (id⊢ 𝓤 _) (id⊢ 𝓤 _)
+        ((tt, tt, tt, (p, tt), (pv p ∷ [], tt)), tt) (a-pass .makes W, tt) (g, tt) (id⊢ 𝓤 _) (id⊢ 𝓤 _)
         (λ r. offsetIn r ≡ ofTaken (p .answer) (answered (offset (p .found)))) (λ r ws. id⊢ 𝓤 _) an-offset (arg ! 3 refl) (λ r is gr.
-        lands-at ! 8 refl (an-offset .typed W r gr .0) $ returns ! (look ! 8 refl) $
+        lands-at ! 8 refl (an-offset .typed W r gr) $ returns ! (look ! 8 refl) $
         frees-at ! 8 refl $ frees-at ! 6 refl $ frees-at ! 4 refl $ frees-at ! 2 refl $ free0 ! $
-        owned ! R.the-row (Is R.the-row) (an-offset .makes 𝓤 H A) r (an-offset .val r ∷ []) gr $ keep ! (2 ∷ 0 ∷ []) $
+        owned ! R.the-row (Is R.the-row) (an-offset .makes W) r (an-offset .val r ∷ []) gr $ keep ! (2 ∷ 0 ∷ []) $
         by ! (ends 𝓤 H A this.ended c y W (an-offset .val r) r (tt, (tt, tt))
         (factI 𝓤 _ (emp 𝓤) (is ∙ in-force-read (z .0) (x .now) p said))))))
 

@@ -48,23 +48,23 @@ module _ {M : Type 1} (𝓤 : URA M) (H : Heap 𝓤) (A : Atoms 𝓤) (W : Given
         split ! $ move ! (2 ∷ []) $ fsplit ! $ move ! (1 ∷ []) $ drop ! $ fsplit3 ! $ drop ! $ move ! (0 ∷ 1 ∷ 2 ∷ []) $
         -- [obs; the borrow; the token; true]
         enters ! (𝓣 .C) (𝓣 .Λ) this.Code.function _ _ (λ l₀ l₁ l₂ l₃ l₄. params1 ! $ pass1 ! (init ! 6 refl (tt, tt)) $
-        pass1 ! (init ! 4 refl (an-entry .typed W e ge .0)) $ pass0 ! $
+        pass1 ! (init ! 4 refl (an-entry .typed W e ge)) $ pass0 ! $
         move ! (10 ∷ 11 ∷ 12 ∷ []) $ opens ! tt T.the-row {h = h} b o (λ vs.
         spelt ! T.the-row (Is T.the-row) (shows 𝓤 H A T.the-row) (λ u. tv u ∷ []) (a-table .tells) fullShare h vs b o $
         move ! (1 ∷ []) $ peeks ! T.the-row (Is T.the-row) (shows 𝓤 H A T.the-row) h (tv h ∷ []) (λ gh. drop ! $
         -- [the table's cell; the open borrow; obs; auth; _4 at 4; _3 at 6; _2 at 8; _1 at 10; _0 at 12]
-        sets ! 4 (of-opd ! (load ! (from ! (hop ! (look ! 10 refl) (stop !))) (look-raw ! 0 refl))) refl (a-table .typed W h gh .0) $
+        sets ! 4 (of-opd ! (load ! (from ! (hop ! (look ! 10 refl) (stop !))) (look-raw ! 0 refl))) refl (a-table .typed W h gh) $
         calls-plain ! (fmOf 𝓤 H (W .laws) 𝓣) one.ended (one.clauses 𝓤 H A at-mem run) known
-        ((tt, tt, tt, (h, (e, tt)), (tv h ∷ [], (ev e ∷ [], tt))), tt) (a-table .makes 𝓤 H A, (an-entry .makes 𝓤 H A, tt))
+        ((tt, tt, tt, (h, (e, tt)), (tv h ∷ [], (ev e ∷ [], tt))), tt) (a-table .makes W, (an-entry .makes W, tt))
         (gh, (ge, tt)) (id⊢ 𝓤 _) (id⊢ 𝓤 _) (λ r. tableAnswerIn r ≡ extended h e) (λ r ws. id⊢ 𝓤 _) a-growth
         (and-then ! (held ! 5 refl) (arg ! 9 refl)) (λ r is g.
         let parts = struct.owed X.the-type X.Laws.the-laws r _ g in
-        lands-at ! 6 refl (a-growth .typed W r g .0) $
+        lands-at ! 6 refl (a-growth .typed W r g) $
         assigns ! (of-opd ! (load ! (from ! (fld ! {d = 8} refl (stop !))) (look-in ! 6 (sub ! 1 {d = 8} refl (whole !)))))
-        (from ! (hop ! (look ! 10 refl) (stop !))) (store-raw ! 0 refl (a-table .typed W (r .table) (parts .1 .0) .0)) $
+        (from ! (hop ! (look ! 10 refl) (stop !))) (store-raw ! 0 refl (a-table .typed W (r .table) (parts .1 .0))) $
         sets ! 12 (of-opd ! (load ! (from ! (fld ! refl (stop !))) (look-in ! 6 (sub ! 0 refl (whole !))))) refl
-        (a-refusal .typed W (r .answer) (parts .0) .0) $
-        owned ! T.the-row (Is T.the-row) (a-table .makes 𝓤 H A) (r .table) (tv (r .table) ∷ []) (parts .1 .0) $ move ! (1 ∷ 0 ∷ []) $
+        (a-refusal .typed W (r .answer) (parts .0)) $
+        owned ! T.the-row (Is T.the-row) (a-table .makes W) (r .table) (tv (r .table) ∷ []) (parts .1 .0) $ move ! (1 ∷ 0 ∷ []) $
         closes ! tt T.the-row (r .table) (tv (r .table) ∷ []) b o $
         -- [obs; the borrow; the token; _4 at 3; _3 at 5; _2 at 7; _1 at 9; _0 at 11]
         returns ! (look ! 11 refl) $ frees-at ! 11 refl $ frees-at ! 9 refl $ frees-at ! 7 refl $ frees-at ! 5 refl $
@@ -73,7 +73,7 @@ module _ {M : Type 1} (𝓤 : URA M) (H : Heap 𝓤) (A : Atoms 𝓤) (W : Given
         suffices ! _ (ends-at 𝓤 H A this.ended stayed c W y _ (r .answer) (r .table, (tt, tt)) (tt, (tt, tt))) $ says ! is $
         nothing ! $ move ! (3 ∷ 0 ∷ []) $ join ! $ frame ! $ feqI ! (List Val) (vptr b o ∷ []) (vptr b o ∷ []) refl $ fjoin3 ! $
         nothing ! $ nothing ! $ fjoin ! $ move ! (1 ∷ 0 ∷ []) $ fjoin ! $ frame ! $
-        owned ! K.the-row (Is K.the-row) (a-refusal .makes 𝓤 H A) (r .answer) _ (parts .0) $ done !))))
+        owned ! K.the-row (Is K.the-row) (a-refusal .makes W) (r .answer) _ (parts .0) $ done !))))
 
   walks : Walks 𝓤 H A this.ended stayed (WpFn 𝓤 H (𝓣 .C) (𝓣 .Λ) this.Code.function) c
   walks = walked 𝓤 H A this.ended stayed c (WpFn 𝓤 H (𝓣 .C) (𝓣 .Λ) this.Code.function)

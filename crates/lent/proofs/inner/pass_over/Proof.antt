@@ -103,25 +103,25 @@ module _ {M : Type 1} (𝓤 : URA M) (H : Heap 𝓤) (A : Atoms 𝓤) (W : Given
           move ! (1 ∷ 0 ∷ []) $ entry-opens ! tt ys (s .i) b o (below t ys s l) (λ q′ ge.
           -- [the entry's cell; what it owns; the others; what shuts; the entries; _8 at 5; _7 at 7; …]
           sets ! 5 (of-opd ! (load ! (from ! (hop ! (look ! 7 refl) (stop !))) (look-raw ! 0 refl))) refl
-          (an-entry .typed W (at-i t ys s) ge .0) $
+          (an-entry .typed W (at-i t ys s) ge) $
           entry-shuts ! tt ys (s .i) b o (below t ys s l) q′ $
           calls-plain ! (fmOf 𝓤 H (W .laws) 𝓣) on.ended (on.clauses 𝓤 H A at-mem run) known-on
           ((tt, tt, tt, (s .pass, (at-i t ys s, tt)), (pv (s .pass) ∷ [], (ev (at-i t ys s) ∷ [], tt))), tt)
-          (a-pass .makes 𝓤 H A, (an-entry .makes 𝓤 H A, tt)) (s .is-pass, (ge, tt)) (id⊢ 𝓤 _)
+          (a-pass .makes W, (an-entry .makes W, tt)) (s .is-pass, (ge, tt)) (id⊢ 𝓤 _)
           (factI 𝓤 _ (emp 𝓤) (count-fits t ys s l (gn .0))) (λ r. seenIn r ≡ after (seenIn (s .pass)) (at-i t ys s))
           (λ r ws. id⊢ 𝓤 _) a-pass (and-then ! (held ! 13 refl) (arg ! 3 refl)) (λ r is g.
-          land ! (from ! (stop !)) (store ! 12 refl (a-pass .typed W r g .0)) $
+          land ! (from ! (stop !)) (store ! 12 refl (a-pass .typed W r g)) $
           assigns-last ! (bin ! (held ! 10 refl) (lit ! tt) (record { fits = fits-next })) (from ! (stop !))
           (store ! 10 refl (tt, record { fits = fits-next })) $
           forget ! 2 refl $ forget ! 4 refl $ forget ! 6 refl $ forget ! 8 refl $
           again ! ≺ I s (next t ys s l ge r g is) (less t ys s l))))
           -- ---- it is not: the pass is returned
           (λ l. exec ! (𝓣 .C) (𝓣 .Λ) En mir.t-4 (atRet En Q) $
-          sets ! 18 (of-opd ! (held ! 12 refl)) refl (a-pass .typed W (s .pass) (s .is-pass) .0) $
+          sets ! 18 (of-opd ! (held ! 12 refl)) refl (a-pass .typed W (s .pass) (s .is-pass)) $
           returns ! (look ! 18 refl) $ frees-at ! 18 refl $ frees-at ! 16 refl $ frees-at ! 14 refl $ frees-at ! 12 refl $
           frees-at ! 10 refl $ frees-at ! 8 refl $ frees-at ! 6 refl $
           move ! (4 ∷ 5 ∷ []) $ free1 ! $ move ! (2 ∷ 3 ∷ []) $ free1 ! $ free0 ! $
-          owned ! P.the-row (Is P.the-row) (a-pass .makes 𝓤 H A) (s .pass) (pv (s .pass) ∷ []) (s .is-pass) $ nothing ! $
+          owned ! P.the-row (Is P.the-row) (a-pass .makes W) (s .pass) (pv (s .pass) ∷ []) (s .is-pass) $ nothing ! $
           move ! (2 ∷ 0 ∷ []) $ join ! $ keep ! (0 ∷ 1 ∷ []) $
           by ! (ends 𝓤 H A this.ended c y W (pv (s .pass)) (s .pass) (tt, (tt, tt)) (factI 𝓤 _ (emp 𝓤) (all-seen t ys s l))))
 
@@ -142,7 +142,7 @@ module _ {M : Type 1} (𝓤 : URA M) (H : Heap 𝓤) (A : Atoms 𝓤) (W : Given
       calls-plain ! (fmOf 𝓤 H (W .laws) 𝓣) begin.ended (begin.clauses 𝓤 H A at-mem run) known-begin
       ((tt, tt, tt, (t, tt), (vint w64 t ∷ [], tt)), tt) (uint-makes 𝓤 H A W w64, tt) (are .1 .0, tt) (id⊢ 𝓤 _) (id⊢ 𝓤 _)
       (λ r. seenIn r ≡ begun t) (λ r ws. id⊢ 𝓤 _) a-pass (arg ! 13 refl) (λ r is g.
-      lands-at ! 10 refl (a-pass .typed W r g .0) $ sets ! 8 (of-opd ! (lit ! tt)) refl (tt, record { fits = lit< tt }) $
+      lands-at ! 10 refl (a-pass .typed W r g) $ sets ! 8 (of-opd ! (lit ! tt)) refl (tt, record { fits = lit< tt }) $
       -- of what the lent list owns the borrow of the entries is kept
       move ! (19 ∷ []) $ fsplit ! $ move ! (1 ∷ []) $ drop ! $ fsplit ! $ drop ! $ fsplit ! $ drop ! $ move ! (19 ∷ []) $
       use1 W (‵ (flft (κs .0) (qs .0)) ⊛ ‵ ftrue) (id⊢ 𝓤 _) $ split ! $ move ! (0 ∷ 2 ∷ []) $ move ! (2 ∷ []) $ drop ! $

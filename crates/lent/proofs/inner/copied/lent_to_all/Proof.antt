@@ -4,14 +4,13 @@ use mathlib.Core.Path.{sym, subst}
 use Prim.Native.Nat.{_≤_}
 use lib.ListN.{take}
 use lib.Seq.{length-take-le}
-use lib.Dec.{T, eqb, lit<}
-use package.mir.Val.{WT, hasTy}
-use package.mir.Syntax.{erased, imm, tyRef, tyArray}
+use lib.Dec.{eqb, lit<}
+use package.mir.Syntax.{erased, imm, tyRef}
 use base.Fml.{flent}
 use contract.Monad.{factI}
 use types.Tokens.{lft-new, lft-end, lent-back}
 use denote.Memory.{partAt, pointee}
-use denote.Array.{array-tells, array-lawful}
+use denote.Array.{Array}
 use denote.ArrayMemory.{array-apart, array-whole}
 use denote.Plain.{uint-vals, uint-tells}
 use denote.Builtin.{usize}
@@ -20,12 +19,12 @@ use denote.Slice.{sliceTy}
 use borrow.Rule.Array.Share.{room-take}
 use denote.Struct.Laws as struct
 use denote.Triple.Walked.{Walks, needs, walkOf}
-use Rattle.lent.proofs.Walking.{_≡_, refl, List, [], _∷_, ℕ, length, URA, fullShare, named, w64, vint, SProp}
-use Rattle.lent.proofs.Walking.{emp, id⊢, GName, ftrue, fat, flft, Memory, Routine, Heap, Tables, WpFn, Atoms}
-use Rattle.lent.proofs.Walking.{Fun, givenOf, tables, tablesOf, Given, ‵, some, later, _⊛_, _$_, _∵_, !, qed, by}
-use Rattle.lent.proofs.Walking.{move, keep, use1, use2, split, join, pick, await, rewrite, look, init, stop}
-use Rattle.lent.proofs.Walking.{from, of-opd, addr, and-then, forget, returns, params1, pass1, pass0, free1}
-use Rattle.lent.proofs.Walking.{free0, agg, fmOf, owns, Is, RefT, sliceVal, plain, owned, nothing, Triple}
+use Rattle.lent.proofs.Walking.{_≡_, refl, List, [], _∷_, ℕ, length, URA, fullShare, named, w64, Val, vint}
+use Rattle.lent.proofs.Walking.{SProp, emp, id⊢, GName, ftrue, fat, flft, Memory, Routine, Heap, Tables, WpFn}
+use Rattle.lent.proofs.Walking.{Atoms, Fun, givenOf, tables, tablesOf, Given, ‵, some, later, _⊛_, _$_, _∵_, ! }
+use Rattle.lent.proofs.Walking.{qed, by, move, keep, use1, use2, split, join, pick, await, rewrite, look, init}
+use Rattle.lent.proofs.Walking.{stop, from, of-opd, addr, and-then, forget, returns, params1, pass1, pass0}
+use Rattle.lent.proofs.Walking.{free1, free0, agg, fmOf, owns, Is, RefT, sliceVal, plain, owned, nothing, Triple}
 use Rattle.lent.proofs.Walking.{Clauses, cited, walked, yes}
 use Rattle.refusals.specs.Outcome.{answered}
 use Rattle.scales.specs.declared.tai.Tai.{Tai}
@@ -42,10 +41,10 @@ use Rattle.tables.proofs.OffsetAnswer as O
 use Rattle.lent.specs.Lists.{ofValidList}
 use Rattle.lent.specs.declared.inner.copied.Answers.{Answers}
 use Rattle.lent.proofs.inner.copied.Answers as S
-use Rattle.lent.proofs.Values.{Valued, of-struct, an-entry, a-reading, a-refusal, a-length, an-emptiness, an-update, an-offset}
+use Rattle.lent.proofs.Values.{a-reading, a-refusal, a-length, an-emptiness, an-update, an-offset, answers, an-array}
 use Rattle.lent.proofs.Locals.{enters, frees-at, held, arg, sets, lands-at}
 use Rattle.lent.proofs.LetGo.{let-go, Walk, ends, by-walk-let-go}
-use Rattle.lent.proofs.InALocal.{Entries, avs, av, array-in, array-out}
+use Rattle.lent.proofs.InALocal.{to-memory, from-memory}
 use Rattle.lent.proofs.Prefix.{Rest, Elems, prefix-out, prefix-in}
 use Rattle.lent.proofs.CallOnLentList.{List&, Token, Answering, asks}
 use Rattle.lent.proofs.Readers.{Viewing}
@@ -57,8 +56,8 @@ use Rattle.lent.proofs.current_tai_minus_utc as current
 use Rattle.lent.proofs.tai_minus_utc_at as at
 use Rattle.lent.proofs.inner.copied.lent_to_all as this
 
-abbrev answers : Valued S.the-row
-answers = of-struct S.the-type S.Laws.the-laws S.Laws.the-plain
+abbrev av : List LeapEntry → Val
+av = an-array 70 .val
 
 module _ {M : Type 1} (𝓤 : URA M) (H : Heap 𝓤) (A : Atoms 𝓤) (W : Given 𝓤 H A) (at-mem : Memory → SProp 𝓤) (run : Routine → Fun 𝓤) (𝓣 : Tables 𝓤 H)
     (known-check : Triple 𝓤 (𝓣 .C check.Symbol.name) (Viewing K.the-row takenIn checking 𝓤 H A))
@@ -70,7 +69,7 @@ module _ {M : Type 1} (𝓤 : URA M) (H : Heap 𝓤) (A : Atoms 𝓤) (W : Given
   abbrev c : Clauses 𝓤 this.ended
   c = this.clauses 𝓤 H A at-mem run
 
-  module _ (h : List LeapEntry) (n : ℕ) (z : Tai) (gh : Is (Entries 70) h (av h ∷ [])) (gn : Is usize n (vint w64 n ∷ []))
+  module _ (h : List LeapEntry) (n : ℕ) (z : Tai) (gh : Is (Array E.the-row 70) h (av h ∷ [])) (gn : Is usize n (vint w64 n ∷ []))
       (gz : Is Z.the-row z (a-reading .val z ∷ [])) (few : n ≤ 70) where
     abbrev y : walkOf 𝓤 H A this.ended (let-go this.ended) c .Ghost
     y = ((tt, tt, tt, (h, (n, (z, tt))), (av h ∷ [], (vint w64 n ∷ [], (a-reading .val z ∷ [], tt)))), tt)
@@ -88,22 +87,18 @@ module _ {M : Type 1} (𝓤 : URA M) (H : Heap 𝓤) (A : Atoms 𝓤) (W : Given
     counts : length ys ≡ n
     counts = length-take-le n h (subst (λ (m : ℕ). n ≤ m) (sym long) few)
 
-    array-typed : T (hasTy (tyArray E.Laws.mir 70) (av h)) × WT (av h)
-    array-typed =
-        array-lawful 𝓤 H A W E.the-row (struct.lawful E.the-type E.Laws.the-laws 𝓤 H A W) 70 .typed h _ gh .0
-
     walk : Walk 𝓤 H A this.ended (let-go this.ended) c y (WpFn 𝓤 H (𝓣 .C) (𝓣 .Λ) this.Code.function)
     walk =
-        qed W (‵ ftrue ∷ ‵ (owns (Entries 70 ∷ usize ∷ Z.the-row ∷ []) (y .0 .3) (y .0 .4)) ∷ []) ∵ keep ! [] $
+        qed W (‵ ftrue ∷ ‵ (owns (Array E.the-row 70 ∷ usize ∷ Z.the-row ∷ []) (y .0 .3) (y .0 .4)) ∷ []) ∵ keep ! [] $
         enters ! (𝓣 .C) (𝓣 .Λ) this.Code.function _ _ (λ l₀ l₁ l₂ l₃ l₄ l₅ l₆ l₇ l₈ l₉ l₁₀ l₁₁ l₁₂. params1 ! $
-        pass1 ! (init ! 22 refl array-typed) $ pass1 ! (init ! 20 refl (tt, record { fits = gn .1 })) $
-        pass1 ! (init ! 18 refl (a-reading .typed W z gz .0)) $ pass0 ! $
-        sets ! 16 (of-opd ! (held ! 22 refl)) refl array-typed $ sets ! 12 (addr ! (from ! (stop !))) refl (tt, tt) $
+        pass1 ! (init ! 22 refl (an-array 70 .typed W h gh)) $ pass1 ! (init ! 20 refl (tt, record { fits = gn .1 })) $
+        pass1 ! (init ! 18 refl (a-reading .typed W z gz)) $ pass0 ! $
+        sets ! 16 (of-opd ! (held ! 22 refl)) refl (an-array 70 .typed W h gh) $ sets ! 12 (addr ! (from ! (stop !))) refl (tt, tt) $
         sets ! 14 (agg ! (and-then ! (held ! 12 refl) (arg ! 20 refl))) refl (tt, (tt, (record { fits = gn .1 }, tt))) $
         rewrite ! 14 (λ (m : ℕ). ‵ (fat fullShare (sliceTy (tyRef erased imm (pointee (E.the-row .written)))) l₅ 0 (sliceVal (l₄, 0) m)))
         (sym counts) refl $
         -- the first n entries are lent for a lifetime that is made here
-        move ! (16 ∷ []) $ use1 W (‵ (partAt (Entries 70) fullShare h l₄ 0)) (array-in 𝓤 H A W 70 h l₄ 0 gh) $
+        move ! (16 ∷ []) $ use1 W (‵ (partAt (Array E.the-row 70) fullShare h l₄ 0)) (to-memory (an-array 70) W h l₄ 0 gh) $
         use1 W (‵ (Elems fullShare 70 h l₄ 0)) (array-apart 𝓤 H A W E.the-row fullShare tt 70 h l₄ 0) $
         use1 W (‵ (Elems fullShare (length ys) ys l₄ 0) ⊛ ‵ (Rest fullShare n h l₄ 0)) (prefix-out 𝓤 H A W fullShare n h l₄ 0) $
         split ! $ lft-new ! tt (λ α. move ! (1 ∷ []) $
@@ -114,40 +109,40 @@ module _ {M : Type 1} (𝓤 : URA M) (H : Heap 𝓤) (A : Atoms 𝓤) (W : Given
         -- [the list; the token; the lender's part; the rest; _12 at 4; _11 at 6; _10 at 8; _9 at 10; _8 at 12; _7 at
         -- 14; _6 at 16; _5 at 18; that _4 dies at 20; _3 at 21; …]
         asks K.the-row [] tt 𝓤 H A _ (α ∷ []) fullShare (x l₄ γ) tt tt ! (fmOf 𝓤 H (W .laws) 𝓣) known-check tt tt a-refusal (arg ! 18 refl) (λ r₁ p₁ g₁.
-        lands-at ! 14 refl (a-refusal .typed W r₁ g₁ .0) $
+        lands-at ! 14 refl (a-refusal .typed W r₁ g₁) $
         asks N.the-row [] tt 𝓤 H A _ (α ∷ []) fullShare (x l₄ γ) tt tt ! (fmOf 𝓤 H (W .laws) 𝓣) known-len tt tt a-length (arg ! 18 refl) (λ r₂ p₂ g₂.
-        lands-at ! 12 refl (a-length .typed W r₂ g₂ .0) $
+        lands-at ! 12 refl (a-length .typed W r₂ g₂) $
         asks B.the-row [] tt 𝓤 H A _ (α ∷ []) fullShare (x l₄ γ) tt tt ! (fmOf 𝓤 H (W .laws) 𝓣) known-empty tt tt an-emptiness (arg ! 18 refl) (λ r₃ p₃ g₃.
-        lands-at ! 10 refl (an-emptiness .typed W r₃ g₃ .0) $
+        lands-at ! 10 refl (an-emptiness .typed W r₃ g₃) $
         asks U.the-row [] tt 𝓤 H A _ (α ∷ []) fullShare (x l₄ γ) tt tt ! (fmOf 𝓤 H (W .laws) 𝓣) known-update tt tt an-update (arg ! 18 refl) (λ r₄ p₄ g₄.
-        lands-at ! 8 refl (an-update .typed W r₄ g₄ .0) $
+        lands-at ! 8 refl (an-update .typed W r₄ g₄) $
         asks O.the-row [] tt 𝓤 H A _ (α ∷ []) fullShare (x l₄ γ) tt tt ! (fmOf 𝓤 H (W .laws) 𝓣) known-current tt tt an-offset (arg ! 18 refl) (λ r₅ p₅ g₅.
-        lands-at ! 6 refl (an-offset .typed W r₅ g₅ .0) $
+        lands-at ! 6 refl (an-offset .typed W r₅ g₅) $
         asks O.the-row (plain (λ _. Z.the-row) ∷ []) (yes, tt) 𝓤 H A _ (α ∷ []) fullShare (x l₄ γ) (z, tt) (a-reading .val z ∷ [], tt)
-        ! (fmOf 𝓤 H (W .laws) 𝓣) known-at (a-reading .makes 𝓤 H A, tt) (gz, tt) an-offset (and-then ! (held ! 18 refl) (arg ! 21 refl)) (λ r₆ p₆ g₆.
-        lands-at ! 4 refl (an-offset .typed W r₆ g₆ .0) $
+        ! (fmOf 𝓤 H (W .laws) 𝓣) known-at (a-reading .makes W, tt) (gz, tt) an-offset (and-then ! (held ! 18 refl) (arg ! 21 refl)) (λ r₆ p₆ g₆.
+        lands-at ! 4 refl (an-offset .typed W r₆ g₆) $
         move ! (1 ∷ []) $ use1 W (‵ (flft (α ∷ []) fullShare) ⊛ ‵ ftrue) (id⊢ 𝓤 _) $ split ! $
         -- [the token; …; the lender's part at 3; the rest; _12 at 5; …]
         lft-end ! tt $ move ! (0 ∷ 3 ∷ []) $ lent-back ! tt $ move ! (0 ∷ 3 ∷ []) $
         use2 W (‵ (Elems fullShare 70 h l₄ 0)) (prefix-in 𝓤 H A W fullShare n h l₄ 0 long) $
-        use1 W (‵ (partAt (Entries 70) fullShare h l₄ 0)) (array-whole 𝓤 H A W E.the-row fullShare 70 h l₄ 0) $ array-out ! 70 h l₄ 0 (
+        use1 W (‵ (partAt (Array E.the-row 70) fullShare h l₄ 0)) (array-whole 𝓤 H A W E.the-row fullShare 70 h l₄ 0) $ from-memory (an-array 70) ! h l₄ 0 (λ _.
         -- [_4 at 0; …; _12 at 3; _11 at 5; _10 at 7; _9 at 9; _8 at 11; _7 at 13; _6 at 15; _5 at 17; that _4 dies at
         -- 19; _3 at 20; _2 at 22; _1 at 24; _0 at 26]
         let r : Answers = record { check = r₁; length = r₂; empty = r₃; update = r₄; current = r₅; «in_force» = r₆ } in
         let g = struct.owes S.the-type S.Laws.the-laws r (g₁, (g₂, (g₃, (g₄, (g₅, (g₆, tt)))))) in
         sets ! 26 (agg ! (and-then ! (held ! 13 refl) (and-then ! (held ! 11 refl) (and-then ! (held ! 9 refl)
-        (and-then ! (held ! 7 refl) (and-then ! (held ! 5 refl) (arg ! 3 refl))))))) refl (answers .typed W r g .0) $
+        (and-then ! (held ! 7 refl) (and-then ! (held ! 5 refl) (arg ! 3 refl))))))) refl (answers .typed W r g) $
         returns ! (look ! 26 refl) $ frees-at ! 26 refl $ frees-at ! 24 refl $ frees-at ! 22 refl $ frees-at ! 20 refl $
         forget ! 0 refl $ move ! (0 ∷ 19 ∷ []) $ free1 ! $ frees-at ! 16 refl $ frees-at ! 14 refl $ frees-at ! 12 refl $
         frees-at ! 10 refl $ frees-at ! 8 refl $ frees-at ! 6 refl $ frees-at ! 4 refl $ frees-at ! 2 refl $ free0 ! $
-        keep ! [] $ owned ! S.the-row (Is S.the-row) (answers .makes 𝓤 H A) r (answers .val r ∷ []) g $ nothing ! $
+        keep ! [] $ owned ! S.the-row (Is S.the-row) (answers .makes W) r (answers .val r ∷ []) g $ nothing ! $
         by ! (ends 𝓤 H A this.ended c y W (answers .val r) r (tt, (tt, (tt, tt)))
         (factI 𝓤 _ (emp 𝓤) (λ i. record { check = p₁ i; size = p₂ i; empty = p₃ i; update = p₄ i; current = p₅ i; inForce = p₆ i })))))))))))))
 
   walks : Walks 𝓤 H A this.ended (let-go this.ended) (WpFn 𝓤 H (𝓣 .C) (𝓣 .Λ) this.Code.function) c
   walks = walked 𝓤 H A this.ended (let-go this.ended) c (WpFn 𝓤 H (𝓣 .C) (𝓣 .Λ) this.Code.function)
-      (λ κs. (avs, (uint-vals w64, ((λ z. a-reading .val z ∷ []), tt))))
-      (λ κs. (array-tells E.the-row (λ e. an-entry .val e ∷ []) (an-entry .tells) 70, (uint-tells w64, (a-reading .tells, tt))))
+      (λ κs. ((λ es. av es ∷ []), (uint-vals w64, ((λ z. a-reading .val z ∷ []), tt))))
+      (λ κs. (an-array 70 .tells, (uint-tells w64, (a-reading .tells, tt))))
       (λ κs qs bounds a _ are. needs 𝓤 _ _ (walk (a .0) (a .1 .0) (a .1 .1 .0) (are .0) (are .1 .0) (are .1 .1 .0)))
 
 pub lent-to-all-spec : {M : Type 1} → this.Statement.statement M
