@@ -14,7 +14,7 @@ use denote.Triple.Walked.{Walks}
 use Rattle.lent.proofs.Walking.{_≡_, refl, List, [], _∷_, URA, Ty, Name, Fn, named, w64, seq, call, vint, emp}
 use Rattle.lent.proofs.Walking.{id⊢, ftrue, Routine, Heap, Tables, WpFn, Atoms, fact, givenOf, tables, tablesOf}
 use Rattle.lent.proofs.Walking.{Given, ‵, raw, _⊛_, _$_, _∵_, !, qed, by, move, keep, split, look, init, lit}
-use Rattle.lent.proofs.Walking.{and-then, no-more, returns, params1, pass1, pass0, free0, fmOf, RattleType, Is}
+use Rattle.lent.proofs.Walking.{and-then, no-more, returns, params1, pass1, pass0, free0, RattleType, Is}
 use Rattle.lent.proofs.Walking.{slice-vals, shr-slice-tells, plain, owned, Contract, Triple, Ended, Clauses}
 use Rattle.lent.proofs.Walking.{closing, tripleOf, cited, walked, yes}
 use Rattle.tables.specs.declared.LeapEntry.{LeapEntry}
@@ -82,10 +82,10 @@ module _ {R : RattleType} (ν : Valued R) {X : Type 0} (view : R .Denot → X) {
       enters ! (𝓣 .C) (𝓣 .Λ) (reading (ν .mir) #read) (slice-vals x) _ (λ l₀ l₁ l₂. params1 ! $
       pass1 ! (init ! 2 refl (tt, (tt, (record { fits = are .0 .0 .1 .0 }, tt)))) $ pass0 ! $ move ! (6 ∷ 7 ∷ []) $
       -- [the list; the token; _2 at 2; _1 at 4; _0 at 6]
-      asks P.the-row (plain (λ _. u64) ∷ []) (yes, tt) 𝓤 H A _ κ q x (0, tt) (vint w64 0 ∷ [], tt) ! (fmOf 𝓤 H (W .laws) 𝓣) known-over
-      (uint-makes 𝓤 H A W w64, tt) ((refl, lit< tt), tt) a-pass (and-then ! (held ! 4 refl) (and-then ! (lit ! tt) (no-more !))) (λ p said gp.
+      asks a-pass (plain (λ _. u64) ∷ []) (yes, tt) _ κ q x (0, tt) (vint w64 0 ∷ [], tt) ! 𝓣 known-over
+      (uint-makes 𝓤 H A W w64, tt) ((refl, lit< tt), tt) (and-then ! (held ! 4 refl) (and-then ! (lit ! tt) (no-more !))) (λ p said gp.
       lands-at ! 2 refl (a-pass .typed W p gp) $
-      calls-plain ! (fmOf 𝓤 H (W .laws) 𝓣) (reader R view f 𝓤) (reads R view f 𝓤) known-read ((tt, tt, tt, (p, tt), (pv p ∷ [], tt)), tt)
+      calls-plain ! 𝓣 (reader R view f 𝓤) (reads R view f 𝓤) known-read ((tt, tt, tt, (p, tt), (pv p ∷ [], tt)), tt)
       (a-pass .makes W, tt) (gp, tt) (id⊢ 𝓤 _) (id⊢ 𝓤 _) (λ r. view r ≡ f p) (λ r ws. id⊢ 𝓤 _) ν (arg ! 3 refl) (λ r is gr.
       lands-at ! 6 refl (ν .typed W r gr) $ returns ! (look ! 6 refl) $ frees-at ! 6 refl $ frees-at ! 4 refl $ frees-at ! 2 refl $ free0 ! $
       owned ! R (Is R) (ν .makes W) r (ν .val r ∷ []) gr $ keep ! (2 ∷ 0 ∷ []) $

@@ -10,8 +10,8 @@ use Rattle.lent.proofs.Walking.{_≡_, refl, List, [], _∷_, length, U
 use Rattle.lent.proofs.Walking.{Share, Memory, Routine, Heap, Tables, WpFn, Atoms, Fun, givenOf, tables}
 use Rattle.lent.proofs.Walking.{tablesOf, Given, ‵, _⊛_, _$_, _∵_, !, qed, by, move, keep, split, look, init}
 use Rattle.lent.proofs.Walking.{stop, fld, from, load, and-then, no-more, returns, params1, pass1, pass0, free0}
-use Rattle.lent.proofs.Walking.{whole, sub, look-in, fmOf, owns, Is, RefT, Room, slice-vals, shr-slice-tells}
-use Rattle.lent.proofs.Walking.{plain, owned, Triple, Clauses, tripleOf, cited, walked, yes}
+use Rattle.lent.proofs.Walking.{whole, sub, look-in, owns, Is, RefT, Room, slice-vals, shr-slice-tells, plain}
+use Rattle.lent.proofs.Walking.{owned, Triple, Clauses, tripleOf, cited, walked, yes}
 use Rattle.refusals.specs.Outcome.{answered}
 use Rattle.scales.specs.declared.tai.Tai.{Tai}
 use Rattle.scales.proofs.tai.Tai as Z
@@ -21,7 +21,6 @@ use Rattle.tables.specs.declared.LeapEntry.{LeapEntry}
 use Rattle.tables.proofs.LeapEntry as E
 use Rattle.tables.proofs.OffsetAnswer as R
 use Rattle.lent.specs.Pass.{ofTaken}
-use Rattle.lent.proofs.inner.Pass as P
 use Rattle.lent.proofs.Values.{a-pass, a-reading, an-offset, pv}
 use Rattle.lent.proofs.Locals.{enters, frees-at, held, arg, lands-at}
 use Rattle.lent.proofs.LetGo.{let-go, Walk, ends, by-walk-let-go}
@@ -51,13 +50,13 @@ module _ {M : Type 1} (𝓤 : URA M) (H : Heap 𝓤) (A : Atoms 𝓤) (W : Given
         pass1 ! (init ! 4 refl (tt, (tt, (record { fits = gn .0 }, tt)))) $
         pass1 ! (init ! 2 refl (a-reading .typed W z gz)) $ pass0 ! $ move ! (8 ∷ 9 ∷ []) $
         -- [the list; the token; _3 at 2; _2 at 4; _1 at 6; _0 at 8]
-        asks P.the-row (plain (λ _. u64) ∷ []) (yes, tt) 𝓤 H A _ κ q x (z .0, tt) (vint w64 (z .0) ∷ [], tt)
-        ! (fmOf 𝓤 H (W .laws) 𝓣) known-over (uint-makes 𝓤 H A W w64, tt)
-        (struct.owed Z.the-type Z.Laws.the-laws z _ gz .0, tt) a-pass
+        asks a-pass (plain (λ _. u64) ∷ []) (yes, tt) _ κ q x (z .0, tt) (vint w64 (z .0) ∷ [], tt)
+        ! 𝓣 known-over (uint-makes 𝓤 H A W w64, tt)
+        (struct.owed Z.the-type Z.Laws.the-laws z _ gz .0, tt)
         (and-then ! (held ! 6 refl)
         (and-then ! (load ! (from ! (fld ! refl (stop !))) (look-in ! 4 (sub ! 0 refl (whole !)))) (no-more !))) (λ p said g.
         lands-at ! 2 refl (a-pass .typed W p g) $
-        calls-plain ! (fmOf 𝓤 H (W .laws) 𝓣) read.ended (read.clauses 𝓤 H A at-mem run) known-read
+        calls-plain ! 𝓣 read.ended (read.clauses 𝓤 H A at-mem run) known-read
         ((tt, tt, tt, (p, tt), (pv p ∷ [], tt)), tt) (a-pass .makes W, tt) (g, tt) (id⊢ 𝓤 _) (id⊢ 𝓤 _)
         (λ r. offsetIn r ≡ ofTaken (p .answer) (answered (offset (p .found)))) (λ r ws. id⊢ 𝓤 _) an-offset (arg ! 3 refl) (λ r is gr.
         lands-at ! 8 refl (an-offset .typed W r gr) $ returns ! (look ! 8 refl) $

@@ -13,7 +13,7 @@ use Rattle.lent.proofs.Walking.{Lft, GName, Share, ftrue, flft, Memory,
 use Rattle.lent.proofs.Walking.{givenOf, tables, tablesOf, Given, ‵, _⊛_, _$_, _∵_, !, qed, move, keep, drop}
 use Rattle.lent.proofs.Walking.{split, join, suffices, frame, done, fsplit, fjoin, feqI, look, init, stop, fld}
 use Rattle.lent.proofs.Walking.{from, load, of-opd, assigns, and-then, returns, params1, pass1, pass0, free0}
-use Rattle.lent.proofs.Walking.{whole, sub, look-in, fmOf, owns, Is, shows, plain, owned, nothing, peeks, Triple}
+use Rattle.lent.proofs.Walking.{whole, sub, look-in, owns, Is, shows, plain, owned, nothing, peeks, Triple}
 use Rattle.lent.proofs.Walking.{Clauses, tripleOf, cited, says, walked, yes}
 use Rattle.tables.specs.Answers.{tableAnswerIn}
 use Rattle.tables.specs.Slots.{extended}
@@ -54,7 +54,7 @@ module _ {M : Type 1} (𝓤 : URA M) (H : Heap 𝓤) (A : Atoms 𝓤) (W : Given
         move ! (1 ∷ []) $ peeks ! T.the-row (Is T.the-row) (shows 𝓤 H A T.the-row) h (tv h ∷ []) (λ gh. drop ! $
         -- [the table's cell; the open borrow; obs; auth; _4 at 4; _3 at 6; _2 at 8; _1 at 10; _0 at 12]
         sets ! 4 (of-opd ! (load ! (from ! (hop ! (look ! 10 refl) (stop !))) (look-raw ! 0 refl))) refl (a-table .typed W h gh) $
-        calls-plain ! (fmOf 𝓤 H (W .laws) 𝓣) one.ended (one.clauses 𝓤 H A at-mem run) known
+        calls-plain ! 𝓣 one.ended (one.clauses 𝓤 H A at-mem run) known
         ((tt, tt, tt, (h, (e, tt)), (tv h ∷ [], (ev e ∷ [], tt))), tt) (a-table .makes W, (an-entry .makes W, tt))
         (gh, (ge, tt)) (id⊢ 𝓤 _) (id⊢ 𝓤 _) (λ r. tableAnswerIn r ≡ extended h e) (λ r ws. id⊢ 𝓤 _) a-growth
         (and-then ! (held ! 5 refl) (arg ! 9 refl)) (λ r is g.

@@ -20,9 +20,9 @@ use Rattle.lent.proofs.Walking.{SProp, emp, id⊢, Lft, GName, Share, f
 use Rattle.lent.proofs.Walking.{Tables, WpFn, Atoms, Fun, givenOf, tables, tablesOf, Item, Given, runs, ‵, raw}
 use Rattle.lent.proofs.Walking.{_⊛_, _$_, _∵_, !, qed, by, move, keep, drop, use1, split, join, rewrite, fsplit}
 use Rattle.lent.proofs.Walking.{look, init, stop, fld, from, load, lit, of-opd, assigns, land, and-then, forget}
-use Rattle.lent.proofs.Walking.{returns, params1, pass1, pass0, free1, free0, whole, sub, look-in, fmOf, owns}
-use Rattle.lent.proofs.Walking.{Is, sliceVal, ShrSlice, Room, slice-vals, shr-slice-tells, owned, nothing}
-use Rattle.lent.proofs.Walking.{Triple, Clauses, tripleOf, cited, walked}
+use Rattle.lent.proofs.Walking.{returns, params1, pass1, pass0, free1, free0, whole, sub, look-in, owns, Is}
+use Rattle.lent.proofs.Walking.{sliceVal, ShrSlice, Room, slice-vals, shr-slice-tells, owned, nothing, Triple}
+use Rattle.lent.proofs.Walking.{Clauses, tripleOf, cited, walked}
 use Rattle.tables.specs.declared.LeapEntry.{LeapEntry}
 use Rattle.tables.proofs.LeapEntry as E
 use Rattle.lent.specs.Pass.{seenIn, begun, after}
@@ -105,7 +105,7 @@ module _ {M : Type 1} (𝓤 : URA M) (H : Heap 𝓤) (A : Atoms 𝓤) (W : Given
           sets ! 5 (of-opd ! (load ! (from ! (hop ! (look ! 7 refl) (stop !))) (look-raw ! 0 refl))) refl
           (an-entry .typed W (at-i t ys s) ge) $
           entry-shuts ! tt ys (s .i) b o (below t ys s l) q′ $
-          calls-plain ! (fmOf 𝓤 H (W .laws) 𝓣) on.ended (on.clauses 𝓤 H A at-mem run) known-on
+          calls-plain ! 𝓣 on.ended (on.clauses 𝓤 H A at-mem run) known-on
           ((tt, tt, tt, (s .pass, (at-i t ys s, tt)), (pv (s .pass) ∷ [], (ev (at-i t ys s) ∷ [], tt))), tt)
           (a-pass .makes W, (an-entry .makes W, tt)) (s .is-pass, (ge, tt)) (id⊢ 𝓤 _)
           (factI 𝓤 _ (emp 𝓤) (count-fits t ys s l (gn .0))) (λ r. seenIn r ≡ after (seenIn (s .pass)) (at-i t ys s))
@@ -139,7 +139,7 @@ module _ {M : Type 1} (𝓤 : URA M) (H : Heap 𝓤) (A : Atoms 𝓤) (W : Given
       enters ! (𝓣 .C) (𝓣 .Λ) this.Code.function (sliceVal (x .ptr) (length ys) ∷ vint w64 t ∷ []) _ (λ l₀ l₁ l₂ l₃ l₄ l₅ l₆ l₇ l₈. params1 ! $
       pass1 ! (init ! 14 refl (tt, (tt, (record { fits = gn .0 }, tt)))) $
       pass1 ! (init ! 12 refl (tt, record { fits = are .1 .0 .1 })) $ pass0 ! $
-      calls-plain ! (fmOf 𝓤 H (W .laws) 𝓣) begin.ended (begin.clauses 𝓤 H A at-mem run) known-begin
+      calls-plain ! 𝓣 begin.ended (begin.clauses 𝓤 H A at-mem run) known-begin
       ((tt, tt, tt, (t, tt), (vint w64 t ∷ [], tt)), tt) (uint-makes 𝓤 H A W w64, tt) (are .1 .0, tt) (id⊢ 𝓤 _) (id⊢ 𝓤 _)
       (λ r. seenIn r ≡ begun t) (λ r ws. id⊢ 𝓤 _) a-pass (arg ! 13 refl) (λ r is g.
       lands-at ! 10 refl (a-pass .typed W r g) $ sets ! 8 (of-opd ! (lit ! tt)) refl (tt, record { fits = lit< tt }) $

@@ -15,8 +15,8 @@ use Rattle.lent.proofs.Walking.{_≡_, refl, [], _∷_, ℕ, URA, fullS
 use Rattle.lent.proofs.Walking.{ftrue, flft, Memory, Routine, Heap, Tables, WpFn, Atoms, Fun, givenOf, tables}
 use Rattle.lent.proofs.Walking.{tablesOf, Given, ‵, some, later, _⊛_, _$_, _∵_, !, qed, by, move, keep, use1}
 use Rattle.lent.proofs.Walking.{split, join, pick, await, fsplit, fjoin, look, init, stop, from, of-opd, addr}
-use Rattle.lent.proofs.Walking.{and-then, forget, returns, params1, pass1, pass0, free1, free0, agg, fmOf, owns}
-use Rattle.lent.proofs.Walking.{Is, RefT, owned, nothing, Triple, Clauses, tripleOf, cited, walked}
+use Rattle.lent.proofs.Walking.{and-then, forget, returns, params1, pass1, pass0, free1, free0, agg, owns, Is}
+use Rattle.lent.proofs.Walking.{RefT, owned, nothing, Triple, Clauses, tripleOf, cited, walked}
 use Rattle.tables.specs.Answers.{takenIn}
 use Rattle.tables.specs.Slots.{extended}
 use Rattle.tables.specs.declared.LeapEntry.{LeapEntry}
@@ -69,7 +69,7 @@ module _ {M : Type 1} (𝓤 : URA M) (H : Heap 𝓤) (A : Atoms 𝓤) (W : Given
         use1 W (Asked 𝓤 H A one.ended c₁ (handed α l₃ γ)) (id⊢ 𝓤 _) $
         -- [what `try_extend` asks; the lender's part; _6 at 2; _5 at 4; _4 at 6; that _3 dies at 8; _2 at 9; _1 at
         -- 11; _0 at 13]
-        calls-told ! (fmOf 𝓤 H (W .laws) 𝓣) one.ended c₁ known (handed α l₃ γ) (λ r ws. (takenIn r, ws .0) ≡ extended h e)
+        calls-told ! 𝓣 one.ended c₁ known (handed α l₃ γ) (λ r ws. (takenIn r, ws .0) ≡ extended h e)
         (λ r ws. id⊢ 𝓤 _) a-refusal (and-then ! (held ! 4 refl) (arg ! 9 refl)) (λ r ws is g.
         use1 W (‵ (flft (α ∷ []) fullShare) ⊛ ‵ ftrue) (id⊢ 𝓤 _) $ split ! $ move ! (2 ∷ []) $ fsplit ! $ move ! (2 ∷ []) $
         -- [the token; the last value; …; the lender's part at 4; _6 at 5; _5 at 7; _4 at 9; that _3 dies at 11; _2 at

@@ -24,7 +24,7 @@ use Rattle.lent.proofs.Walking.{SProp, emp, id⊢, GName, ftrue, fat, f
 use Rattle.lent.proofs.Walking.{Atoms, Fun, givenOf, tables, tablesOf, Given, ‵, some, later, _⊛_, _$_, _∵_, ! }
 use Rattle.lent.proofs.Walking.{qed, by, move, keep, use1, use2, split, join, pick, await, rewrite, look, init}
 use Rattle.lent.proofs.Walking.{stop, from, of-opd, addr, and-then, forget, returns, params1, pass1, pass0}
-use Rattle.lent.proofs.Walking.{free1, free0, agg, fmOf, owns, Is, RefT, sliceVal, plain, owned, nothing, Triple}
+use Rattle.lent.proofs.Walking.{free1, free0, agg, owns, Is, RefT, sliceVal, plain, owned, nothing, Triple}
 use Rattle.lent.proofs.Walking.{Clauses, cited, walked, yes}
 use Rattle.refusals.specs.Outcome.{answered}
 use Rattle.scales.specs.declared.tai.Tai.{Tai}
@@ -108,18 +108,18 @@ module _ {M : Type 1} (𝓤 : URA M) (H : Heap 𝓤) (A : Atoms 𝓤) (W : Given
         use1 W (Token 𝓤 A (α ∷ []) fullShare) (id⊢ 𝓤 _) $ move ! (1 ∷ []) $
         -- [the list; the token; the lender's part; the rest; _12 at 4; _11 at 6; _10 at 8; _9 at 10; _8 at 12; _7 at
         -- 14; _6 at 16; _5 at 18; that _4 dies at 20; _3 at 21; …]
-        asks K.the-row [] tt 𝓤 H A _ (α ∷ []) fullShare (x l₄ γ) tt tt ! (fmOf 𝓤 H (W .laws) 𝓣) known-check tt tt a-refusal (arg ! 18 refl) (λ r₁ p₁ g₁.
+        asks a-refusal [] tt _ (α ∷ []) fullShare (x l₄ γ) tt tt ! 𝓣 known-check tt tt (arg ! 18 refl) (λ r₁ p₁ g₁.
         lands-at ! 14 refl (a-refusal .typed W r₁ g₁) $
-        asks N.the-row [] tt 𝓤 H A _ (α ∷ []) fullShare (x l₄ γ) tt tt ! (fmOf 𝓤 H (W .laws) 𝓣) known-len tt tt a-length (arg ! 18 refl) (λ r₂ p₂ g₂.
+        asks a-length [] tt _ (α ∷ []) fullShare (x l₄ γ) tt tt ! 𝓣 known-len tt tt (arg ! 18 refl) (λ r₂ p₂ g₂.
         lands-at ! 12 refl (a-length .typed W r₂ g₂) $
-        asks B.the-row [] tt 𝓤 H A _ (α ∷ []) fullShare (x l₄ γ) tt tt ! (fmOf 𝓤 H (W .laws) 𝓣) known-empty tt tt an-emptiness (arg ! 18 refl) (λ r₃ p₃ g₃.
+        asks an-emptiness [] tt _ (α ∷ []) fullShare (x l₄ γ) tt tt ! 𝓣 known-empty tt tt (arg ! 18 refl) (λ r₃ p₃ g₃.
         lands-at ! 10 refl (an-emptiness .typed W r₃ g₃) $
-        asks U.the-row [] tt 𝓤 H A _ (α ∷ []) fullShare (x l₄ γ) tt tt ! (fmOf 𝓤 H (W .laws) 𝓣) known-update tt tt an-update (arg ! 18 refl) (λ r₄ p₄ g₄.
+        asks an-update [] tt _ (α ∷ []) fullShare (x l₄ γ) tt tt ! 𝓣 known-update tt tt (arg ! 18 refl) (λ r₄ p₄ g₄.
         lands-at ! 8 refl (an-update .typed W r₄ g₄) $
-        asks O.the-row [] tt 𝓤 H A _ (α ∷ []) fullShare (x l₄ γ) tt tt ! (fmOf 𝓤 H (W .laws) 𝓣) known-current tt tt an-offset (arg ! 18 refl) (λ r₅ p₅ g₅.
+        asks an-offset [] tt _ (α ∷ []) fullShare (x l₄ γ) tt tt ! 𝓣 known-current tt tt (arg ! 18 refl) (λ r₅ p₅ g₅.
         lands-at ! 6 refl (an-offset .typed W r₅ g₅) $
-        asks O.the-row (plain (λ _. Z.the-row) ∷ []) (yes, tt) 𝓤 H A _ (α ∷ []) fullShare (x l₄ γ) (z, tt) (a-reading .val z ∷ [], tt)
-        ! (fmOf 𝓤 H (W .laws) 𝓣) known-at (a-reading .makes W, tt) (gz, tt) an-offset (and-then ! (held ! 18 refl) (arg ! 21 refl)) (λ r₆ p₆ g₆.
+        asks an-offset (plain (λ _. Z.the-row) ∷ []) (yes, tt) _ (α ∷ []) fullShare (x l₄ γ) (z, tt) (a-reading .val z ∷ [], tt)
+        ! 𝓣 known-at (a-reading .makes W, tt) (gz, tt) (and-then ! (held ! 18 refl) (arg ! 21 refl)) (λ r₆ p₆ g₆.
         lands-at ! 4 refl (an-offset .typed W r₆ g₆) $
         move ! (1 ∷ []) $ use1 W (‵ (flft (α ∷ []) fullShare) ⊛ ‵ ftrue) (id⊢ 𝓤 _) $ split ! $
         -- [the token; …; the lender's part at 3; the rest; _12 at 5; …]
