@@ -8,16 +8,19 @@ use contract.Lifetimes.{Lfts}
 use contract.Running.{GhostRules, Running}
 use sound.WpLaws.{WpFn-mono}
 use denote.RattleType.{Denots, Valss}
-use denote.Signature.{Signature, typeAt, typesAt}
+use denote.Signature.{typeAt, typesAt}
 use denote.Triple.Bound.{passed}
 use denote.Triple.Clauses.{Lasts, atExit}
 use denote.Triple.End.{Kepts, Fins}
 use denote.Triple.Entry.{Res, alive}
 use denote.Triple.Table.{entered}
 use denote.Triple.Walked.{Stays, fitsOf, hasOf, stay-dropped, walkOf, ends-at, Walks, Silent, AllGo, goes-dropped, walk-meets}
-use Rattle.lent.proofs.Walking.{List, [], _∷_, ℕ, URA, Name, Fn, Val, ent, sep, emp, id⊢, Heap, WpFn, Atoms, sem}
-use Rattle.lent.proofs.Walking.{Fun, givenOf, tables, tablesOf, Given, ‵, raw, _$_, _∵_, !, qed, move, use0}
-use Rattle.lent.proofs.Walking.{join, suffices, done, Slot, Triple, Ended, Clauses, closing, onEntry, tripleOf}
+use types.Kit.{prop}
+use Rattle.lent.proofs.Walking.{List, [], _∷_, ℕ, URA, Name, Fn, ent, emp, id⊢, Heap, WpFn, Atoms, sem, Fun}
+use Rattle.lent.proofs.Walking.{givenOf, tables, tablesOf, Item, Given, Seq, ‵, raw, _$_, move, keep, use0, join}
+use Rattle.lent.proofs.Walking.{suffices, done, Is, Slot, owned, Triple, Ended, Clauses, closing, onEntry}
+use Rattle.lent.proofs.Walking.{tripleOf}
+use Rattle.lent.proofs.Values.{Valued}
 
 abbrev dropped : {n : ℕ} (ss : List (Slot n)) (ks : Kepts ss) → Stays ss ks
 dropped [] ks = tt
@@ -44,22 +47,6 @@ module _ {M : Type 1} (𝓤 : URA M) (H : Heap 𝓤) (A : Atoms 𝓤) where
   had κs [] ks a ws vss = id⊢ 𝓤 (emp 𝓤)
   had κs (s ∷ ss) ks a ws vss = via 𝓤 _ (had κs ss (ks .1) (a .1) (ws .1) (vss .1)) (emp∗ 𝓤 _)
 
-  module _ (T : Ended) (c : Clauses 𝓤 T) (y : walkOf 𝓤 H A T (let-go T) c .Ghost) where
-    abbrev S : Signature
-    S = T .signature
-
-    -- at the result r, of which the contract says what it does
-    pub ends : (W : Given 𝓤 H A) (v : Val) (r : Res S (y .0 .0)) (ws : Lasts T (y .0 .0) (y .0 .3))
-        → ent 𝓤 (emp 𝓤) (c (y .0 .0) (y .0 .3) .ensures (y .1) r (atExit T (y .0 .0) (y .0 .3) ws))
-        → ent 𝓤 (sep 𝓤 (alive 𝓤 H A S (y .0 .0) (y .0 .1)) (sem 𝓤 H A (typeAt (S .result) (y .0 .0) .own r (v ∷ []))))
-        (walkOf 𝓤 H A T (let-go T) c .post y v)
-    ends W v r ws said =
-        let ϕ = hasOf (y .0 .0) (S .params) (T .kept) (let-go T) (y .0 .3) ws (y .0 .4) in
-        qed W (raw (alive 𝓤 H A S (y .0 .0) (y .0 .1)) ∷ ‵ (typeAt (S .result) (y .0 .0) .own r (v ∷ [])) ∷ []) ∵
-        suffices ! _ (ends-at 𝓤 H A T (let-go T) c W y v r ws (fits (y .0 .0) (S .params) (T .kept) (y .0 .3) ws)) $
-        use0 W (‵ ϕ) (had (y .0 .0) (S .params) (T .kept) (y .0 .3) ws (y .0 .4)) $ use0 W (raw _) said $
-        move ! (1 ∷ 3 ∷ []) $ join ! $ move ! (2 ∷ 0 ∷ []) $ join ! $ done !
-
   module _ (W : Given 𝓤 H A) (n : ℕ) where
     -- nothing is said of a parameter at the end, as `refl` shows
     abbrev Silents : (ss : List (Slot n)) → Kepts ss → Type 1
@@ -69,6 +56,22 @@ module _ {M : Type 1} (𝓤 : URA M) (H : Heap 𝓤) (A : Atoms 𝓤) where
     all-go : (ss : List (Slot n)) (ks : Kepts ss) → Silents ss ks → AllGo 𝓤 H A W n ss ks (dropped ss ks)
     all-go [] ks qs = tt
     all-go (s ∷ ss) ks qs = (goes-dropped 𝓤 H A W n s (ks .0) (qs .0), all-go ss (ks .1) (qs .1))
+
+-- at the result r, of which the contract says what it does
+pub ends : {M : Type 1} {𝓤 : URA M} {H : Heap 𝓤} {A : Atoms 𝓤} {K : Type 0} {W : Given 𝓤 H A} {Γ : List (Item 𝓤)} → K
+    → (T : Ended) (c : Clauses 𝓤 T) (y : walkOf 𝓤 H A T (let-go T) c .Ghost) (ν : Valued (typeAt (T .signature .result) (y .0 .0)))
+    → (r : Res (T .signature) (y .0 .0)) (ws : Lasts T (y .0 .0) (y .0 .3))
+    → Is (typeAt (T .signature .result) (y .0 .0)) r (ν .val r ∷ [])
+    → ent 𝓤 (emp 𝓤) (c (y .0 .0) (y .0 .3) .ensures (y .1) r (atExit T (y .0 .0) (y .0 .3) ws))
+    → Seq K W (raw (alive 𝓤 H A (T .signature) (y .0 .0) (y .0 .1)) ∷ Γ) (prop (walkOf 𝓤 H A T (let-go T) c .post y (ν .val r)))
+ends {𝓤 = 𝓤} {H = H} {A = A} {W = W} t T c y ν r ws g said =
+    let R = typeAt (T .signature .result) (y .0 .0) in
+    let ss = T .signature .params in
+    let ϕ = hasOf (y .0 .0) ss (T .kept) (let-go T) (y .0 .3) ws (y .0 .4) in
+    keep t (0 ∷ []) $ owned t R (Is R) (ν .makes W) r (ν .val r ∷ []) g $
+    suffices t _ (ends-at 𝓤 H A T (let-go T) c W y (ν .val r) r ws (fits (y .0 .0) ss (T .kept) (y .0 .3) ws)) $
+    use0 W (‵ ϕ) (had 𝓤 H A (y .0 .0) ss (T .kept) (y .0 .3) ws (y .0 .4)) $ use0 W (raw _) said $
+    move t (1 ∷ 2 ∷ []) $ join t $ move t (2 ∷ 0 ∷ []) $ join t $ done t
 
 module _ {M : Type 1} (𝓤 : URA M) (H : Heap 𝓤) (𝓜 : Model 𝓤 H) (𝓖 : GhostRules 𝓤 H) (𝓡 : Running 𝓤 H 𝓜) (γ : Routines) where
   abbrev pub Runs : Fn → Fun 𝓤

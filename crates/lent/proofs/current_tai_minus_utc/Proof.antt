@@ -10,5 +10,6 @@ use Rattle.lent.proofs.current_tai_minus_utc as this
 pub current-tai-minus-utc-spec : {M : Type 1} → this.Statement.statement M
 unfolding this.Code.routine tablesOf
 current-tai-minus-utc-spec 𝓤 H 𝓜 𝓖 𝓡 =
-    reads-off an-offset offsetIn (current-read 0) 𝓤 H 𝓜 𝓖 𝓡 this.Code.env this.Key.name read.Symbol.name read.Symbol.routine
-    (this.Code.unfolded 𝓤 H 𝓜 𝓡) this.Code.calls-lent·inner·pass-over this.Code.calls-lent·inner·current (read.Met.met 𝓤 H 𝓜 𝓖 𝓡)
+    reads-off an-offset offsetIn (current-read 0) 𝓤 H 𝓜 𝓖 𝓡 this.Code.env this.Key.name read.Symbol.name
+    (this.Code.unfolded 𝓤 H 𝓜 𝓡) this.Code.calls-lent·inner·pass-over this.Code.calls-lent·inner·current
+    (read.Met.met 𝓤 H 𝓜 𝓖 𝓡)

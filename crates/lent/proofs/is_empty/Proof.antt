@@ -10,5 +10,6 @@ use Rattle.lent.proofs.is_empty as this
 pub is-empty-spec : {M : Type 1} → this.Statement.statement M
 unfolding this.Code.routine tablesOf
 is-empty-spec 𝓤 H 𝓜 𝓖 𝓡 =
-    reads-off an-emptiness emptyIn (emptiness-read 0) 𝓤 H 𝓜 𝓖 𝓡 this.Code.env this.Key.name read.Symbol.name read.Symbol.routine
-    (this.Code.unfolded 𝓤 H 𝓜 𝓡) this.Code.calls-lent·inner·pass-over this.Code.calls-lent·inner·emptiness (read.Met.met 𝓤 H 𝓜 𝓖 𝓡)
+    reads-off an-emptiness emptyIn (emptiness-read 0) 𝓤 H 𝓜 𝓖 𝓡 this.Code.env this.Key.name read.Symbol.name
+    (this.Code.unfolded 𝓤 H 𝓜 𝓡) this.Code.calls-lent·inner·pass-over this.Code.calls-lent·inner·emptiness
+    (read.Met.met 𝓤 H 𝓜 𝓖 𝓡)

@@ -10,5 +10,6 @@ use Rattle.lent.proofs.last_update as this
 pub last-update-spec : {M : Type 1} → this.Statement.statement M
 unfolding this.Code.routine tablesOf
 last-update-spec 𝓤 H 𝓜 𝓖 𝓡 =
-    reads-off an-update updateIn (update-read 0) 𝓤 H 𝓜 𝓖 𝓡 this.Code.env this.Key.name read.Symbol.name read.Symbol.routine
-    (this.Code.unfolded 𝓤 H 𝓜 𝓡) this.Code.calls-lent·inner·pass-over this.Code.calls-lent·inner·update (read.Met.met 𝓤 H 𝓜 𝓖 𝓡)
+    reads-off an-update updateIn (update-read 0) 𝓤 H 𝓜 𝓖 𝓡 this.Code.env this.Key.name read.Symbol.name
+    (this.Code.unfolded 𝓤 H 𝓜 𝓡) this.Code.calls-lent·inner·pass-over this.Code.calls-lent·inner·update
+    (read.Met.met 𝓤 H 𝓜 𝓖 𝓡)

@@ -8,10 +8,10 @@ use denote.Struct.Laws as struct
 use denote.Triple.Walked.{Walks, walkOf}
 use Rattle.lent.proofs.Walking.{_≡_, refl, List, [], _∷_, length, URA, named, w64, vint, SProp, emp, id⊢, Lft}
 use Rattle.lent.proofs.Walking.{Share, Memory, Routine, Heap, Tables, WpFn, Atoms, Fun, givenOf, tables}
-use Rattle.lent.proofs.Walking.{tablesOf, Given, ‵, _⊛_, _$_, _∵_, !, qed, by, move, keep, split, look, init}
-use Rattle.lent.proofs.Walking.{stop, fld, from, load, and-then, no-more, returns, params1, pass1, pass0, free0}
-use Rattle.lent.proofs.Walking.{whole, sub, look-in, owns, Is, RefT, Room, slice-vals, shr-slice-tells, plain}
-use Rattle.lent.proofs.Walking.{owned, Triple, Clauses, tripleOf, cited, walked, yes}
+use Rattle.lent.proofs.Walking.{tablesOf, Given, ‵, _⊛_, _$_, _∵_, !, qed, move, split, look, init, stop, fld}
+use Rattle.lent.proofs.Walking.{from, load, and-then, no-more, returns, params1, pass1, pass0, free0, whole, sub}
+use Rattle.lent.proofs.Walking.{look-in, owns, Is, RefT, Room, slice-vals, shr-slice-tells, plain, Triple}
+use Rattle.lent.proofs.Walking.{Clauses, tripleOf, cited, walked, yes}
 use Rattle.refusals.specs.Outcome.{answered}
 use Rattle.scales.specs.declared.tai.Tai.{Tai}
 use Rattle.scales.proofs.tai.Tai as Z
@@ -19,7 +19,6 @@ use Rattle.tables.specs.Answers.{offsetIn}
 use Rattle.tables.specs.Entries.{offset}
 use Rattle.tables.specs.declared.LeapEntry.{LeapEntry}
 use Rattle.tables.proofs.LeapEntry as E
-use Rattle.tables.proofs.OffsetAnswer as R
 use Rattle.lent.specs.Pass.{ofTaken}
 use Rattle.lent.proofs.Values.{a-pass, a-reading, an-offset, pv}
 use Rattle.lent.proofs.Locals.{enters, frees-at, held, arg, lands-at}
@@ -60,10 +59,8 @@ module _ {M : Type 1} (𝓤 : URA M) (H : Heap 𝓤) (A : Atoms 𝓤) (W : Given
         ((tt, tt, tt, (p, tt), (pv p ∷ [], tt)), tt) (a-pass .makes W, tt) (g, tt) (id⊢ 𝓤 _) (id⊢ 𝓤 _)
         (λ r. offsetIn r ≡ ofTaken (p .answer) (answered (offset (p .found)))) (λ r ws. id⊢ 𝓤 _) an-offset (arg ! 3 refl) (λ r is gr.
         lands-at ! 8 refl (an-offset .typed W r gr) $ returns ! (look ! 8 refl) $
-        frees-at ! 8 refl $ frees-at ! 6 refl $ frees-at ! 4 refl $ frees-at ! 2 refl $ free0 ! $
-        owned ! R.the-row (Is R.the-row) (an-offset .makes W) r (an-offset .val r ∷ []) gr $ keep ! (2 ∷ 0 ∷ []) $
-        by ! (ends 𝓤 H A this.ended c y W (an-offset .val r) r (tt, (tt, tt))
-        (factI 𝓤 _ (emp 𝓤) (is ∙ in-force-read (z .0) (x .now) p said))))))
+        frees-at ! 8 refl $ frees-at ! 6 refl $ frees-at ! 4 refl $ frees-at ! 2 refl $ free0 ! $ move ! (1 ∷ []) $
+        ends ! this.ended c y an-offset r (tt, (tt, tt)) gr (factI 𝓤 _ (emp 𝓤) (is ∙ in-force-read (z .0) (x .now) p said)))))
 
   walks : Walks 𝓤 H A this.ended (let-go this.ended) (WpFn 𝓤 H (𝓣 .C) (𝓣 .Λ) this.Code.function) c
   walks = walked 𝓤 H A this.ended (let-go this.ended) c (WpFn 𝓤 H (𝓣 .C) (𝓣 .Λ) this.Code.function)

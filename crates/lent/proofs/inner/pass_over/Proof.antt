@@ -18,11 +18,11 @@ use denote.Triple.Walked.{Walks, walkOf}
 use Rattle.lent.proofs.Walking.{_≡_, refl, List, [], _∷_, ℕ, length, URA, fullShare, named, w64, Val, vint, vptr}
 use Rattle.lent.proofs.Walking.{SProp, emp, id⊢, Lft, GName, Share, ftrue, fat, flft, Memory, Routine, Heap, Env}
 use Rattle.lent.proofs.Walking.{Tables, WpFn, Atoms, Fun, givenOf, tables, tablesOf, Item, Given, runs, ‵, raw}
-use Rattle.lent.proofs.Walking.{_⊛_, _$_, _∵_, !, qed, by, move, keep, drop, use1, split, join, rewrite, fsplit}
+use Rattle.lent.proofs.Walking.{_⊛_, _$_, _∵_, !, qed, move, keep, drop, use1, split, join, rewrite, fsplit}
 use Rattle.lent.proofs.Walking.{look, init, stop, fld, from, load, lit, of-opd, assigns, land, and-then, forget}
-use Rattle.lent.proofs.Walking.{returns, params1, pass1, pass0, free1, free0, whole, sub, look-in, owns, Is}
-use Rattle.lent.proofs.Walking.{sliceVal, ShrSlice, Room, slice-vals, shr-slice-tells, owned, nothing, Triple}
-use Rattle.lent.proofs.Walking.{Clauses, tripleOf, cited, walked}
+use Rattle.lent.proofs.Walking.{returns, params1, pass1, pass0, free1, free0, whole, sub, look-in, owns}
+use Rattle.lent.proofs.Walking.{sliceVal, ShrSlice, Room, slice-vals, shr-slice-tells, nothing, Triple, Clauses}
+use Rattle.lent.proofs.Walking.{tripleOf, cited, walked}
 use Rattle.tables.specs.declared.LeapEntry.{LeapEntry}
 use Rattle.tables.proofs.LeapEntry as E
 use Rattle.lent.specs.Pass.{seenIn, begun, after}
@@ -121,9 +121,8 @@ module _ {M : Type 1} (𝓤 : URA M) (H : Heap 𝓤) (A : Atoms 𝓤) (W : Given
           returns ! (look ! 18 refl) $ frees-at ! 18 refl $ frees-at ! 16 refl $ frees-at ! 14 refl $ frees-at ! 12 refl $
           frees-at ! 10 refl $ frees-at ! 8 refl $ frees-at ! 6 refl $
           move ! (4 ∷ 5 ∷ []) $ free1 ! $ move ! (2 ∷ 3 ∷ []) $ free1 ! $ free0 ! $
-          owned ! P.the-row (Is P.the-row) (a-pass .makes W) (s .pass) (pv (s .pass) ∷ []) (s .is-pass) $ nothing ! $
-          move ! (2 ∷ 0 ∷ []) $ join ! $ keep ! (0 ∷ 1 ∷ []) $
-          by ! (ends 𝓤 H A this.ended c y W (pv (s .pass)) (s .pass) (tt, (tt, tt)) (factI 𝓤 _ (emp 𝓤) (all-seen t ys s l))))
+          nothing ! $ move ! (1 ∷ 0 ∷ []) $ join ! $ use1 W (Token 𝓤 A κ q) (id⊢ 𝓤 _) $
+          ends ! this.ended c y a-pass (s .pass) (tt, (tt, tt)) (s .is-pass) (factI 𝓤 _ (emp 𝓤) (all-seen t ys s l)))
 
       looping : (s : State t ys) → Sq W (I s) (runs (𝓣 .C) (𝓣 .Λ) En mir.t-3 (atRet En Q))
       looping s = first ! $ blocks ! $ loops ! 𝓣 ≺ (InvImage·wf (left t ys) (Nat·lt-wfRel .wf)) I turn s

@@ -13,10 +13,10 @@ use denote.Struct.Laws as struct
 use denote.Triple.Walked.{Walks, walkOf}
 use Rattle.lent.proofs.Walking.{_≡_, refl, [], _∷_, ℕ, URA, fullShare, named, vptr, SProp, emp, id⊢, GName}
 use Rattle.lent.proofs.Walking.{ftrue, flft, Memory, Routine, Heap, Tables, WpFn, Atoms, Fun, givenOf, tables}
-use Rattle.lent.proofs.Walking.{tablesOf, Given, ‵, some, later, _⊛_, _$_, _∵_, !, qed, by, move, keep, use1}
-use Rattle.lent.proofs.Walking.{split, join, pick, await, fsplit, fjoin, look, init, stop, from, of-opd, addr}
-use Rattle.lent.proofs.Walking.{and-then, forget, returns, params1, pass1, pass0, free1, free0, agg, owns, Is}
-use Rattle.lent.proofs.Walking.{RefT, owned, nothing, Triple, Clauses, tripleOf, cited, walked}
+use Rattle.lent.proofs.Walking.{tablesOf, Given, ‵, raw, some, later, _⊛_, _$_, _∵_, !, qed, move, keep, use0}
+use Rattle.lent.proofs.Walking.{use1, split, join, pick, await, fsplit, fjoin, look, init, stop, from, of-opd}
+use Rattle.lent.proofs.Walking.{addr, and-then, forget, returns, params1, pass1, pass0, free1, free0, agg, owns}
+use Rattle.lent.proofs.Walking.{Is, RefT, owned, nothing, Triple, Clauses, tripleOf, cited, walked}
 use Rattle.tables.specs.Answers.{takenIn}
 use Rattle.tables.specs.Slots.{extended}
 use Rattle.tables.specs.declared.LeapEntry.{LeapEntry}
@@ -83,9 +83,8 @@ module _ {M : Type 1} (𝓤 : URA M) (H : Heap 𝓤) (A : Atoms 𝓤) (W : Given
         sets ! 3 (of-opd ! (held ! 0 refl)) refl (a-table .typed W (ws .0) gw) $
         sets ! 14 (agg ! (and-then ! (held ! 7 refl) (arg ! 3 refl))) refl (a-growth .typed W made gm) $
         returns ! (look ! 14 refl) $ frees-at ! 14 refl $ frees-at ! 12 refl $ frees-at ! 10 refl $ forget ! 0 refl $
-        move ! (0 ∷ 9 ∷ []) $ free1 ! $ frees-at ! 6 refl $ frees-at ! 4 refl $ frees-at ! 2 refl $ free0 ! $ keep ! [] $
-        owned ! X.the-row (Is X.the-row) (a-growth .makes W) made (a-growth .val made ∷ []) gm $ nothing ! $
-        by ! (ends 𝓤 H A this.ended c y W (a-growth .val made) made (tt, (tt, tt)) (factI 𝓤 _ (emp 𝓤) is)))))))
+        move ! (0 ∷ 9 ∷ []) $ free1 ! $ frees-at ! 6 refl $ frees-at ! 4 refl $ frees-at ! 2 refl $ free0 ! $
+        use0 W (raw (emp 𝓤)) (id⊢ 𝓤 _) $ ends ! this.ended c y a-growth made (tt, (tt, tt)) gm (factI 𝓤 _ (emp 𝓤) is))))))
 
   walks : Walks 𝓤 H A this.ended (let-go this.ended) (WpFn 𝓤 H (𝓣 .C) (𝓣 .Λ) this.Code.function) c
   walks = walked 𝓤 H A this.ended (let-go this.ended) c (WpFn 𝓤 H (𝓣 .C) (𝓣 .Λ) this.Code.function)

@@ -21,11 +21,11 @@ use denote.Struct.Laws as struct
 use denote.Triple.Walked.{Walks, needs, walkOf}
 use Rattle.lent.proofs.Walking.{_≡_, refl, List, [], _∷_, ℕ, length, URA, fullShare, named, w64, Val, vint}
 use Rattle.lent.proofs.Walking.{SProp, emp, id⊢, GName, ftrue, fat, flft, Memory, Routine, Heap, Tables, WpFn}
-use Rattle.lent.proofs.Walking.{Atoms, Fun, givenOf, tables, tablesOf, Given, ‵, some, later, _⊛_, _$_, _∵_, ! }
-use Rattle.lent.proofs.Walking.{qed, by, move, keep, use1, use2, split, join, pick, await, rewrite, look, init}
-use Rattle.lent.proofs.Walking.{stop, from, of-opd, addr, and-then, forget, returns, params1, pass1, pass0}
-use Rattle.lent.proofs.Walking.{free1, free0, agg, owns, Is, RefT, sliceVal, plain, owned, nothing, Triple}
-use Rattle.lent.proofs.Walking.{Clauses, cited, walked, yes}
+use Rattle.lent.proofs.Walking.{Atoms, Fun, givenOf, tables, tablesOf, Given, ‵, raw, some, later, _⊛_, _$_, _∵_}
+use Rattle.lent.proofs.Walking.{ !, qed, move, keep, use0, use1, use2, split, join, pick, await, rewrite, look}
+use Rattle.lent.proofs.Walking.{init, stop, from, of-opd, addr, and-then, forget, returns, params1, pass1, pass0}
+use Rattle.lent.proofs.Walking.{free1, free0, agg, owns, Is, RefT, sliceVal, plain, nothing, Triple, Clauses}
+use Rattle.lent.proofs.Walking.{cited, walked, yes}
 use Rattle.refusals.specs.Outcome.{answered}
 use Rattle.scales.specs.declared.tai.Tai.{Tai}
 use Rattle.scales.proofs.tai.Tai as Z
@@ -135,9 +135,8 @@ module _ {M : Type 1} (𝓤 : URA M) (H : Heap 𝓤) (A : Atoms 𝓤) (W : Given
         returns ! (look ! 26 refl) $ frees-at ! 26 refl $ frees-at ! 24 refl $ frees-at ! 22 refl $ frees-at ! 20 refl $
         forget ! 0 refl $ move ! (0 ∷ 19 ∷ []) $ free1 ! $ frees-at ! 16 refl $ frees-at ! 14 refl $ frees-at ! 12 refl $
         frees-at ! 10 refl $ frees-at ! 8 refl $ frees-at ! 6 refl $ frees-at ! 4 refl $ frees-at ! 2 refl $ free0 ! $
-        keep ! [] $ owned ! S.the-row (Is S.the-row) (answers .makes W) r (answers .val r ∷ []) g $ nothing ! $
-        by ! (ends 𝓤 H A this.ended c y W (answers .val r) r (tt, (tt, (tt, tt)))
-        (factI 𝓤 _ (emp 𝓤) (λ i. record { check = p₁ i; size = p₂ i; empty = p₃ i; update = p₄ i; current = p₅ i; inForce = p₆ i })))))))))))))
+        use0 W (raw (emp 𝓤)) (id⊢ 𝓤 _) $ ends ! this.ended c y answers r (tt, (tt, (tt, tt))) g (factI 𝓤 _ (emp 𝓤) (λ i.
+        record { check = p₁ i; size = p₂ i; empty = p₃ i; update = p₄ i; current = p₅ i; inForce = p₆ i }))))))))))))
 
   walks : Walks 𝓤 H A this.ended (let-go this.ended) (WpFn 𝓤 H (𝓣 .C) (𝓣 .Λ) this.Code.function) c
   walks = walked 𝓤 H A this.ended (let-go this.ended) c (WpFn 𝓤 H (𝓣 .C) (𝓣 .Λ) this.Code.function)
