@@ -1,6 +1,6 @@
 -- What a lookup in an image answers, 8 first, by what a pass over its slots has found.
 use mathlib.Core.Path.{_≡_, refl, sym, ap, _∙_}
-use mathlib.Core.Bool.{false, cond}
+use mathlib.Core.Bool.{true, false, cond}
 use mathlib.Core.List.{List, []}
 use Prim.Native.Nat.{ℕ, zero, suc, _-_, _≤_, _<_}
 use native.Mathlib.Omega.{arith}
@@ -9,12 +9,11 @@ use lib.Dec.{eqb}
 use lib.ListN.{length}
 use lib.IntN.{ℤ}
 use Rattle.refusals.specs.Outcome.{Outcome, answered, refused}
-use Rattle.tables.specs.Entries.{Entry, follows, telling, lookup, firstRefusal}
+use Rattle.tables.specs.Entries.{Entry, follows, valid, telling, lookup}
 use Rattle.tables.specs.Search.{AtOrBelow}
 use Rattle.tables.specs.Slots.{slotAt, slots}
 use Rattle.tables.specs.declared.Lookup.{Lookup}
 use Rattle.tables.proofs.InForce.{lookup-is}
-use Rattle.tables.proofs.Neighbours.{passes-valid}
 use Rattle.tables.proofs.Scanned.{invalid-at}
 use Rattle.images.specs.Image.{tableIn, byImage}
 use Rattle.images.proofs.Held.{by-entries, held, refuses, answers}
@@ -64,12 +63,12 @@ module _ {b : List ℕ} {n : ℕ} (o : Opened b n) (tai : ℕ) where
       refuses b _ (by-entries b (o .size) few)
       (invalid-at _ _ i (tableIn b .len) s (omega arith) (omega arith) (omega arith) f)
 
-  -- the first i slots are all n, none is refused, and the entry in force is at a place
-  pub tells : {i place : ℕ} {found : Lookup} (k : ℕ) → i ≡ n → firstRefusal (firstSlots b i) ≡ 0
+  -- the first i slots are all n and valid, and the entry in force is at a place
+  pub tells : {i place : ℕ} {found : Lookup} (k : ℕ) → i ≡ n → valid (firstSlots b i) ≡ true
       → AtOrBelow (thresholds b) i tai k → place ≡ k - 1 → found ≡ toldAt b n place
       → answered found ≡ answer b tai
   tells k e z p q f =
       let h = table-sized b in
       let all = e ∙ o .len in
-      answers (held b (by-entries b (o .size) few) (passes-valid _ (rw all at z)))
+      answers (held b (by-entries b (o .size) few) (rw all at z))
       (f ∙ rw (o .len) (told-is _ _ _ (omega arith) (omega arith) tai k (rw all at p) q))

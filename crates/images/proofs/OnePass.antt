@@ -1,29 +1,28 @@
--- One pass over the slots: after the first i, none of which is refused, it knows the last threshold, the offset that
+-- One pass over the slots: after the first i, which are valid, it knows the last threshold, the offset that
 -- must come next, and the place of the entry in force among them.
 use mathlib.Core.Path.{_≡_, refl, sym, ap, _∙_}
 use mathlib.Core.Bool.{true}
-use mathlib.Core.List.{List}
+use mathlib.Core.List.{List, [], _∷_}
 use Prim.Native.Nat.{ℕ, zero, suc, _+_, _-_, _≤_, _<_}
 use native.Mathlib.Omega.{arith}
 use native.Mathlib.Decide.{decLe, decLt}
 use native.Mathlib.Numerals.{add-one}
-use borrow.Author.Tests.{lt-ltb, le-ltb, eqb-true}
-use lib.ListN.{getD}
+use borrow.Author.Tests.{lt-ltb, le-ltb}
+use lib.ListN.{getD, take}
 use lib.IntN.{ℤ, pos, negsuc, _+ℤ_}
 use mir.Syntax.{w32, w64}
 use mir.Val.{SFits, toZ, ofZ}
 use mir.Facts.{toZ-ofZ, sfits-widen}
 use Rattle.refusals.specs.Outcome.{answered, refused}
 use Rattle.counts.proofs.Signed.{bits-tell}
-use Rattle.tables.specs.Entries.{threshold, offset, follows, firstRefusal}
+use Rattle.tables.specs.Entries.{Entry, threshold, offset, neighbours, follows, valid}
 use Rattle.tables.specs.Search.{Rises, AtOrBelow}
 use Rattle.tables.specs.Slots.{paired}
 use Rattle.tables.specs.declared.Lookup.{Lookup}
 use Rattle.tables.proofs.Halving.{whole, up, met}
 use Rattle.tables.proofs.InForce.{rises}
 use Rattle.tables.proofs.Integers.{equal-yes, equal-no}
-use Rattle.tables.proofs.Neighbours.{passes-valid, step-follows}
-use Rattle.tables.proofs.Scanned.{one-passes, next-refusal}
+use Rattle.tables.proofs.Joining.{one-more-valid}
 use Rattle.images.specs.Image.{tableIn}
 use Rattle.images.proofs.InSlots.{table-sized}
 use Rattle.images.proofs.Judged.{thresholds, slot, firstSlots, Opened, toldAt, answer, not-valid, tells}
@@ -45,6 +44,11 @@ module _ (xs : List ℕ) (t : ℕ) where
       go j l l′ (yes q) = p .above j l q
       go j l l′ (no q) = let e : j ≡ i = omega (arith, q) in rw e h
 
+one-valid : (es : List Entry) → valid (take 1 es) ≡ true
+unfolding neighbours
+one-valid [] = refl
+one-valid (e ∷ es) = refl
+
 pub more-fits : (z : ℤ) → SFits w32 z → SFits w64 (z +ℤ pos 1)
 more-fits (pos n) f = record { sfits = omega (arith, f .sfits) }
 more-fits (negsuc zero) f = record { sfits = omega arith }
@@ -59,7 +63,7 @@ module _ (b : List ℕ) (t n : ℕ) where
     pub last : before ≡ threshold (slot b (i - 1))
     pub fits : SFits w32 (offset (slot b (i - 1)))
     pub next : one-more ≡ ofZ w64 (offset (slot b (i - 1)) +ℤ pos 1)
-    pub passes : firstRefusal (firstSlots b i) ≡ 0
+    pub passes : valid (firstSlots b i) ≡ true
     pub reached : ℕ
     pub counted : AtOrBelow (thresholds b) i t reached
     pub in-force : place ≡ reached - 1
@@ -71,8 +75,8 @@ module _ (b : List ℕ) (t n : ℕ) where
     pub above : t < threshold (slot b i) → Pass (i + 1) (threshold (slot b i)) (ofZ w64 (given +ℤ pos 1)) place
 
 module _ {b : List ℕ} {n : ℕ} (o : Opened b n) (t : ℕ) where
-  -- slot i, where the slots to it are refused nowhere
-  step : (i k place : ℕ) → i < n → SFits w32 (offset (slot b i)) → firstRefusal (firstSlots b (suc i)) ≡ 0
+  -- slot i, where the slots to it are valid
+  step : (i k place : ℕ) → i < n → SFits w32 (offset (slot b i)) → valid (firstSlots b (suc i)) ≡ true
       → AtOrBelow (thresholds b) i t k → place ≡ k - 1 → Step b t n i place (offset (slot b i))
   step i k place l f z c e = record {
     room = more-fits _ f;
@@ -80,11 +84,11 @@ module _ {b : List ℕ} {n : ℕ} (o : Opened b n) (t : ℕ) where
     above = λ q. on k place (one-above (thresholds b) t i k c q) e;
   }
     where
-      passed : firstRefusal (firstSlots b (i + 1)) ≡ 0
+      passed : valid (firstSlots b (i + 1)) ≡ true
       passed = rw add-one z
 
       rising : Rises (thresholds b) (i + 1)
-      rising = let s = table-sized b in rises _ _ _ (omega arith) (omega arith) (passes-valid _ passed)
+      rising = let s = table-sized b in rises _ _ _ (omega arith) (omega arith) passed
 
       on : (m at : ℕ) → AtOrBelow (thresholds b) (i + 1) t m → at ≡ m - 1
           → Pass b t n (i + 1) (threshold (slot b i)) (ofZ w64 (offset (slot b i) +ℤ pos 1)) at
@@ -109,7 +113,7 @@ module _ {b : List ℕ} {n : ℕ} (o : Opened b n) (t : ℕ) where
     where
       first : Step b t n 0 0 (offset (slot b 0))
       first =
-          step 0 0 0 l f (one-passes (paired (thresholds b) (tableIn b .offsets))) (none-reached (thresholds b) t) refl
+          step 0 0 0 l f (one-valid (paired (thresholds b) (tableIn b .offsets))) (none-reached (thresholds b) t) refl
 
       by-order : Dec (threshold (slot b 0) ≤ t)
           → Pass b t n 1 (threshold (slot b 0)) (ofZ w64 (offset (slot b 0) +ℤ pos 1)) 0
@@ -118,7 +122,7 @@ module _ {b : List ℕ} {n : ℕ} (o : Opened b n) (t : ℕ) where
 
   -- there is no slot
   pub none-told : {found : Lookup} → n ≡ 0 → found ≡ toldAt b n 0 → answered found ≡ answer b t
-  unfolding firstRefusal
+  unfolding neighbours
   none-told e f = tells o t 0 (sym e) refl (none-reached (thresholds b) t) refl f
 
 module _ {b : List ℕ} {t n i before one-more place : ℕ} (p : Pass b t n i before one-more place) where
@@ -150,7 +154,6 @@ module _ {b : List ℕ} {t n i before one-more place : ℕ} (p : Pass b t n i be
           let s = table-sized b in
           let one = bits-tell (sfits-widen tt f) (more-fits _ (p .fits)) (e ∙ p .next) in
           let on : follows (slot b (i - 1)) (slot b i) ≡ true = rw (lt-ltb _ _ above, equal-yes _ _ one) in
-          let passed = next-refusal _ _ i (p .some) (omega arith) (omega arith) (p .passes)
-          ∙ eqb-true _ 0 (step-follows (slot b (i - 1)) (slot b i) f ∙ on) in
+          let passed = one-more-valid _ _ i (omega arith) (omega arith) (p .some) (omega arith) (omega arith) (p .passes) on in
           let read : toZ w64 one-more ≡ offset (slot b i) = ap (toZ w64) (sym e) ∙ toZ-ofZ (sfits-widen tt f) in
           rw read (step (p .opened) t i (p .reached) place l f passed (p .counted) (p .in-force))

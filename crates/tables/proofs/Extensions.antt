@@ -21,7 +21,8 @@ use Rattle.tables.specs.declared.LeapTable.{LeapTable}
 use Rattle.tables.specs.declared.Taken.{Taken}
 use Rattle.tables.specs.declared.Taken.the-variants as taken
 use Rattle.tables.proofs.FirstSlots.{one-stored}
-use Rattle.tables.proofs.Neighbours.{both, zero-follows}
+use Rattle.tables.proofs.Neighbours.{zero-follows}
+use Rattle.tables.proofs.Joining.{valid-joined}
 use Rattle.tables.proofs.Checked.{checked, length-is}
 use Rattle.tables.proofs.Growing.{not-too-long, has-room}
 use Rattle.tables.proofs.LeapTable.try_extend.Reads as try-extend-contract
@@ -43,14 +44,6 @@ pub record Grows (t : LeapTable) (e : LeapEntry) (after : LeapTable) : Type 0 wh
 pub record Extends (t : LeapTable) (e : LeapEntry) (answer : Taken) (after : LeapTable) : Type 0 where
   pub done : answer ≡ taken.Done → Sized t → Grows t e after
   pub refused : (why : Refusal) → answer ≡ taken.Refused why → after ≡ t
-
-valid-joined : (p : Entry) (ps : List Entry) (e : Entry) → valid (p ∷ ps) ≡ true → follows (lastOr p ps) e ≡ true
-    → valid (p ∷ ps ++ e ∷ []) ≡ true
-unfolding neighbours lastOr
-valid-joined p [] e v f = rw f
-valid-joined p (q ∷ qs) e v f =
-    let b = both (follows p q) (valid (q ∷ qs)) v in
-    rw (b .0) (valid-joined q qs e (b .1) f)
 
 -- an entry that is not refused leaves the list valid
 pub stays-valid : (es : List Entry) (e : Entry) → valid es ≡ true → 0 ≡ joinRefusal es e → valid (es ++ e ∷ []) ≡ true

@@ -1,15 +1,18 @@
 -- What the last entry says of the next one, and of the table.
 use mathlib.Core.Path.{_≡_, refl, ap, subst, _∙_}
-use mathlib.Core.List.{List, [], _∷_}
+use mathlib.Core.Bool.{true}
+use mathlib.Core.List.{List, [], _∷_, _++_}
 use mathlib.Core.Option.{none, some}
-use Prim.Native.Nat.{ℕ, _-_, _≤_, _<_}
+use Prim.Native.Nat.{ℕ, suc, _-_, _≤_, _<_}
 use native.Mathlib.Omega.{arith}
 use borrow.Author.Tests.{le-leb, lt-leb}
 use lib.ListN.{length, getD}
 use lib.IntN.{ℤ, pos}
-use Rattle.tables.specs.Entries.{Entry, threshold, offset, entry, lastOr, currentOffset, lastUpdate, stepRefusal, joinRefusal}
+use Rattle.tables.specs.Entries.{Entry, threshold, offset, entry, neighbours, follows, valid, lastOr}
+use Rattle.tables.specs.Entries.{currentOffset, lastUpdate, stepRefusal, joinRefusal}
 use Rattle.tables.specs.Slots.{slotAt, slots}
-use Rattle.tables.proofs.FirstSlots.{slots-length, slot-is}
+use Rattle.tables.proofs.FirstSlots.{slots-length, slot-is, one-more}
+use Rattle.tables.proofs.Neighbours.{both}
 
 last-is : (e d : Entry) (es : List Entry) → lastOr e es ≡ getD (e ∷ es) (length es) d
 unfolding lastOr
@@ -30,6 +33,15 @@ no-update [] h = refl
 no-update (e ∷ []) h = refl
 no-update (e ∷ f ∷ fs) h = absurd (omega arith)
 
+-- an entry that follows the last one leaves a list valid
+pub valid-joined : (p : Entry) (ps : List Entry) (e : Entry) → valid (p ∷ ps) ≡ true → follows (lastOr p ps) e ≡ true
+    → valid (p ∷ ps ++ e ∷ []) ≡ true
+unfolding neighbours lastOr
+valid-joined p [] e v f = rw f
+valid-joined p (q ∷ qs) e v f =
+    let b = both (follows p q) (valid (q ∷ qs)) v in
+    rw (b .0) (valid-joined q qs e (b .1) f)
+
 -- the first n slots
 module _ (xs : List ℕ) (zs : List ℤ) (n : ℕ) (h : n ≤ length xs) (h′ : n ≤ length zs) where
   abbrev d : Entry
@@ -48,6 +60,13 @@ module _ (xs : List ℕ) (zs : List ℤ) (n : ℕ) (h : n ≤ length xs) (h′ :
       go (p ∷ ps) s q =
           let k : length ps ≡ n - 1 = omega arith in
           subst (P (p ∷ ps)) (last-is p d ps ∙ ap (λ (i : ℕ). getD (p ∷ ps) i d) k ∙ q) (holds p ps s)
+
+  pub one-more-valid : 0 < n → n < length xs → n < length zs → valid (slots xs zs n) ≡ true
+      → follows (slotAt xs zs (n - 1)) (slotAt xs zs n) ≡ true → valid (slots xs zs (suc n)) ≡ true
+  one-more-valid p l l′ =
+      let e = slotAt xs zs n in
+      rw (one-more xs zs n l l′)
+      (of-last (λ es q. valid es ≡ true → follows q e ≡ true → valid (es ++ e ∷ []) ≡ true) p (λ q qs s. valid-joined q qs e))
 
   pub full-slots : (e : Entry) → 64 ≤ n → joinRefusal (slots xs zs n) e ≡ 5
   unfolding joinRefusal

@@ -57,7 +57,7 @@ module _ {M : Type 1} (𝓤 : URA M) (H : Heap 𝓤) (A : Atoms 𝓤) (W : Given
         lands-at ! 2 refl (a-pass .typed W p g) $
         calls-plain ! 𝓣 read.ended (read.clauses 𝓤 H A at-mem run) known-read
         ((tt, tt, tt, (p, tt), (pv p ∷ [], tt)), tt) (a-pass .makes W, tt) (g, tt) (id⊢ 𝓤 _) (id⊢ 𝓤 _)
-        (λ r. offsetIn r ≡ ofTaken (p .answer) (answered (offset (p .found)))) (λ r ws. id⊢ 𝓤 _) an-offset (arg ! 3 refl) (λ r is gr.
+        (λ r. offsetIn r ≡ ofTaken (p .answer) (answered (p .found .offset))) (λ r ws. id⊢ 𝓤 _) an-offset (arg ! 3 refl) (λ r is gr.
         lands-at ! 8 refl (an-offset .typed W r gr) $ returns ! (look ! 8 refl) $
         frees-at ! 8 refl $ frees-at ! 6 refl $ frees-at ! 4 refl $ frees-at ! 2 refl $ free0 ! $ move ! (1 ∷ []) $
         ends ! this.ended c y an-offset r (tt, (tt, tt)) gr (factI 𝓤 _ (emp 𝓤) (is ∙ in-force-read (z .0) (x .now) p said)))))
