@@ -8,8 +8,10 @@ use Rattle.refusals.proofs.Given.{gives-same}
 use Rattle.counts.specs.Answers.{durationIn}
 use Rattle.plaitgate.proofs.give.duration as call
 
+returns : call.Tie.Need-returns
+returns c =
+    gives-same (pos 0) (ap durationIn (sym (c .before .before .answer .given .1)))
+    (refl, toZ-ofZ (record { sfits = omega arith }))
+
 pub duration-spec : {M : Type 1} → call.Statement.statement M
-duration-spec =
-    call.Tie.close (call.Tie.spec (search needs) (search needs) (search)
-    (λ c. gives-same (pos 0) (ap durationIn (sym (c .before .before .answer .given .1))) (refl, toZ-ofZ (record { sfits = omega arith })))
-    (search needs))
+duration-spec = call.Tie.close (call.Tie.spec (search needs) (search needs) (search) returns (λ c. search needs))

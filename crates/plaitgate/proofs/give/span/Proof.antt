@@ -13,4 +13,4 @@ returns c =
     gives-same (pos 0) (ap spanIn (sym (c .before .answer .given .1))) (refl, toZ-ofZ (record { sfits = omega arith }))
 
 pub span-spec : {M : Type 1} → call.Statement.statement M
-span-spec = call.Tie.close (call.Tie.spec (search needs) (search needs) (search) returns (search needs))
+span-spec = call.Tie.close (call.Tie.spec (search needs) (search needs) (search) returns (λ c. search needs))

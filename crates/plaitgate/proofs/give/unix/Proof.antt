@@ -13,4 +13,4 @@ returns c =
     gives-same (pos 0) (ap unixIn (sym (c .before .answer .given .1))) (refl, toZ-ofZ (record { sfits = omega arith }))
 
 pub unix-spec : {M : Type 1} → call.Statement.statement M
-unix-spec = call.Tie.close (call.Tie.spec (search needs) (search needs) (search) returns (search needs))
+unix-spec = call.Tie.close (call.Tie.spec (search needs) (search needs) (search) returns (λ c. search needs))
