@@ -74,7 +74,8 @@ of-offset k (negsuc a) =
 by-day : (x z n : ℤ) (utc : ℕ) → x -ℤ pos utcEpochDay ≡ z → onDay z 0 ≡ answered utc
     → (x *ℤ pos daySeconds -ℤ pos gpsEpochUnix +ℤ n) *ℤ pos second ≡ pos utc -ℤ pos E +ℤ inNanos n
 by-day x (pos k) n utc e h =
-    let day : x ≡ pos (k + utcEpochDay) = sym (-ℤ-+ℤ-cancel x (pos utcEpochDay)) ∙ ap (λ (y : ℤ). y +ℤ pos utcEpochDay) e in
+    let day : x ≡ pos (k + utcEpochDay) =
+    sym (-ℤ-+ℤ-cancel x (pos utcEpochDay)) ∙ ap (λ (y : ℤ). y +ℤ pos utcEpochDay) e in
     ap (λ (y : ℤ). (y *ℤ pos daySeconds -ℤ pos gpsEpochUnix +ℤ n) *ℤ pos second) day
     ∙ of-offset k n
     ∙ ap (λ (u : ℕ). pos u -ℤ pos E +ℤ inNanos n) (by-size (ltb (utcOf k + 0) (2 ^ 64)) h)

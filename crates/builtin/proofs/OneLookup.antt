@@ -53,9 +53,11 @@ module _ (u : ℕ) where
       where
         by-order : Dec (threshold e ≤ a)
             → entries.reached es (a + (suc k + entries.reached es a) * second) ≡ entries.reached (moved (suc k) es) u
-            → entries.reached (e ∷ es) (a + (k + entries.reached (e ∷ es) a) * second) ≡ entries.reached (moved k (e ∷ es)) u
+            → entries.reached (e ∷ es) (a + (k + entries.reached (e ∷ es) a) * second)
+            ≡ entries.reached (moved k (e ∷ es)) u
         by-order (yes h) rest =
-            let m : k + (1 - (threshold e - a) + entries.reached es a) ≡ suc k + entries.reached es a = omega (arith, h) in
+            let m : k + (1 - (threshold e - a) + entries.reached es a) ≡ suc k + entries.reached es a =
+            omega (arith, h) in
             let left = reached (threshold e) (a + (suc k + entries.reached es a) * second) (omega (arith, h)) in
             let right = reached (threshold e + E - (19 + k) * second) u (omega (arith, h)) in
             rw m ((λ i. left i + rest i) ∙ ap (λ (n : ℕ). n + entries.reached (moved (suc k) es) u) (sym right))
@@ -90,7 +92,8 @@ module _ (u : ℕ) (count : u < 2 ^ 64) where
       ∙ in-force b
       ∙ ap toldAt (same ∙ past)
 
-  pub one-lookup : lookup builtin (lastReading builtin u) ≡ toldAt (countReached u pastTo1993 + countReached u pastFrom1994)
+  pub one-lookup : lookup builtin (lastReading builtin u)
+      ≡ toldAt (countReached u pastTo1993 + countReached u pastFrom1994)
   unfolding first
   one-lookup = by-time (decLe E (u + 19 * second))
     where
@@ -100,7 +103,8 @@ module _ (u : ℕ) (count : u < 2 ^ 64) where
           let few = entries.few later (a u late) in
           by-readings (a u late) (a u late + (0 + entries.reached later (a u late)) * second)
           (since 0 u (19 * second) late (omega arith))
-          (since (a u late) u ((19 + entries.reached later (a u late)) * second) (omega (arith, late)) (omega (arith, few, few-later)) ∙ omega (arith, late))
+          (since (a u late) u ((19 + entries.reached later (a u late)) * second) (omega (arith, late))
+          (omega (arith, few, few-later)) ∙ omega (arith, late))
           (one-way u late 0 first later chained few-later)
       by-time (no early) =
           let none = entries.none-within-a-day first later 0 chained (omega arith) in

@@ -92,7 +92,8 @@ seconds-of-day s = sums (s % 86400) (s % 3600) (s % 60) hours minutes
 
 whole : (n : ℕ) → n / 1000000000 / 86400 * 86400000000000 + timeOf (fieldsOf n) ≡ n
 whole n =
-    sums (n / 1000000000 / 86400) (n / 1000000000 % 86400) _ (n / 1000000000) (n % 1000000000) (seconds-of-day (n / 1000000000))
+    sums (n / 1000000000 / 86400) (n / 1000000000 % 86400) _ (n / 1000000000) (n % 1000000000)
+    (seconds-of-day (n / 1000000000))
     (omega arith) (omega arith)
   where
     sums : (d r t s k : ℕ) → t ≡ r → d * 86400 + r ≡ s → s * 1000000000 + k ≡ n
@@ -102,7 +103,8 @@ whole n =
 pub count-back : CountsComeBack
 count-back n h =
     ap (λ (z : ℤ). onDay (z -ℤ pos utcEpochDay) (timeOf (fieldsOf n))) (day-of-date (pos (d + utcEpochDay)))
-    ∙ ap (λ (z : ℤ). onDay z (timeOf (fieldsOf n))) (of-naturals (d + utcEpochDay) utcEpochDay ∙ not-below (d + utcEpochDay)
+    ∙ ap (λ (z : ℤ). onDay z (timeOf (fieldsOf n)))
+    (of-naturals (d + utcEpochDay) utcEpochDay ∙ not-below (d + utcEpochDay)
     utcEpochDay (omega arith) ∙ ap pos (omega arith))
     ∙ ap (λ (k : ℕ). countOf (pos k)) (whole n) ∙ is-count n h
   where
@@ -205,9 +207,11 @@ fields-back f n r e =
 
     date : dateOf (pos (n / 1000000000 / 86400 + utcEpochDay)) ≡ dateIn f
     date =
-        ap (λ (d : ℕ). dateOf (pos (d + utcEpochDay))) (ap (λ (s : ℕ). s / 86400) whole-seconds ∙ back-day (a .day) (f .hour)
+        ap (λ (d : ℕ). dateOf (pos (d + utcEpochDay)))
+        (ap (λ (s : ℕ). s / 86400) whole-seconds ∙ back-day (a .day) (f .hour)
         (f .minute) (f .second) few-hours few-minutes few-seconds)
-        ∙ ap dateOf (sym (sym (-ℤ-+ℤ-cancel (dayOf (dateIn f)) (pos utcEpochDay)) ∙ ap (λ (z : ℤ). z +ℤ pos utcEpochDay) (a .is)))
+        ∙ ap dateOf (sym (sym (-ℤ-+ℤ-cancel (dayOf (dateIn f)) (pos utcEpochDay))
+        ∙ ap (λ (z : ℤ). z +ℤ pos utcEpochDay) (a .is)))
         ∙ date-of-day (dateIn f) (r .date)
 
 pub date-of-count : DateOfACountIsItsDays

@@ -19,7 +19,8 @@ use Rattle.conversions.proofs.Shifts.{tai-less}
 module _ (es : List Entry) where
   -- one lookup, at the TAI reading
   pub by-reading : (gps : Outcome ℕ)
-      → utcFromLookup (then gps (up taiMinusGps)) (lookup es (valueIn 0 (then gps (up taiMinusGps)))) ≡ then gps (gpsToUtc es)
+      → utcFromLookup (then gps (up taiMinusGps)) (lookup es (valueIn 0 (then gps (up taiMinusGps))))
+      ≡ then gps (gpsToUtc es)
   by-reading (refused k) = refl
   by-reading (answered g) = go (ltb (g + taiMinusGps) (2 ^ 64))
     where
@@ -46,7 +47,8 @@ module _ (v : Bool) (es : List Entry) where
       ap (λ (o : Outcome Lookup). then o (utcFromLookup tai)) f
       ∙ eight-first (utcFromLookup tai) v (answered (lookup es _))
       ∙ ap (λ (o : Outcome ℕ). cond v o (refused 8))
-      (ap (λ (x : ℕ). utcFromLookup tai (lookup es x)) r ∙ ap (λ (o : Outcome ℕ). utcFromLookup o (lookup es (valueIn 0 o))) t ∙ by-reading es gps)
+      (ap (λ (x : ℕ). utcFromLookup tai (lookup es x)) r
+      ∙ ap (λ (o : Outcome ℕ). utcFromLookup o (lookup es (valueIn 0 o))) t ∙ by-reading es gps)
 
   pub gps-from-store : (utc : Outcome ℕ) {a b : ℕ} {first found : Lookup} → a ≡ firstFor utc
       → answered first ≡ cond v (answered (lookup es a)) (refused 8)

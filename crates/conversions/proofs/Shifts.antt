@@ -79,4 +79,5 @@ tai-less g (pos a) = by-order (decLt a 19)
         ∙ same (g + 19_000_000_000) (a * 1_000_000_000) g ((a - 19) * 1_000_000_000) (omega arith)
         ∙ sym (of-naturals g ((a - 19) * 1_000_000_000)))
 tai-less g (negsuc a) =
-    rw (negℤ-negℤ (pos (suc a * 1_000_000_000)), negℤ-negℤ (pos (suc (suc (a + 18)) * 1_000_000_000))) (ap pos (omega arith))
+    rw (negℤ-negℤ (pos (suc a * 1_000_000_000)), negℤ-negℤ (pos (suc (suc (a + 18)) * 1_000_000_000)))
+    (ap pos (omega arith))

@@ -8,7 +8,8 @@ use borrow.Author.Tests.{le-ltb, le-leb, leb-true, eqb-true}
 use lib.Dec.{leb, eqb}
 use lib.ListN.{length, drop}
 use lib.IntN.{pos}
-use Rattle.tables.specs.Entries.{Entry, threshold, offset, equal, neighbours, valid, aDayOn, begins, regular, day, lastUpTo, lookup, offsetAt}
+use Rattle.tables.specs.Entries.{Entry, threshold, offset, equal, neighbours, valid, aDayOn, begins, regular, day}
+use Rattle.tables.specs.Entries.{lastUpTo, lookup, offsetAt}
 use Rattle.tables.proofs.Integers.{equal-true}
 use Rattle.tables.proofs.Neighbours.{both}
 use Rattle.tables.proofs.Reached as p

@@ -14,7 +14,8 @@ use Rattle.counts.proofs.Difference.{not-below, below, of-naturals, plus}
 use Rattle.counts.proofs.Fitting.{is-count, no-count}
 use Rattle.scales.specs.Scales.{taiMinusGps}
 use Rattle.tables.specs.Entries.{Entry, offsetAt, day}
-use Rattle.conversions.specs.Conversions.{E, countOr, utcAtOffset, gpsAtOffset, firstReading, secondReading, gpsToUtc, utcToGps}
+use Rattle.conversions.specs.Conversions.{E, countOr, utcAtOffset, gpsAtOffset, firstReading, secondReading, gpsToUtc}
+use Rattle.conversions.specs.Conversions.{utcToGps}
 use Rattle.conversions.proofs.SinceEpoch.{since-E, since, before}
 use Rattle.demands.proofs.LeapSeconds.{LeapSeconds}
 

@@ -65,7 +65,8 @@ module _ (es : List Entry) (k : ℕ → ℕ) (f : LeapSeconds es k) where
     comes-back : There back u
     comes-back =
         let few = f .few next in
-        let read : Reads es k f back u = record { tai-fits = omega arith; utc-fits = m; exact = omega (arith, settled) } in
+        let read : Reads es k f back u =
+        record { tai-fits = omega arith; utc-fits = m; exact = omega (arith, settled) } in
         (omega arith, omega arith, to-utc es k f back u read)
 
     -- and no earlier count does

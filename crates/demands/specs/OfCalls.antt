@@ -61,8 +61,10 @@ pub record Demand3 : Type 0 where
       (λ u. Allows builtin-utc-to-gps.Post (λ κ a. a .0 .0 ≡ u) (λ κ r e. gpsIn r))
   -- `plaitgate_table_gps_to_utc` and `plaitgate_table_utc_to_gps`, by an image
   pub exported : (b : List ℕ) → length b ≡ imageBytes → Regular (tableIn b) → TwoInstantsOf (entriesOf (tableIn b))
-      (λ g. Allows host-gps-to-utc.Post (λ κ a. (a .0 ≡ g) × (now (a .1 .0) ≡ b)) (λ κ k e. unless k (now (e .1 .1 .0))))
-      (λ u. Allows host-utc-to-gps.Post (λ κ a. (a .0 ≡ u) × (now (a .1 .0) ≡ b)) (λ κ k e. unless k (now (e .1 .1 .0))))
+      (λ g. Allows host-gps-to-utc.Post (λ κ a. (a .0 ≡ g) × (now (a .1 .0) ≡ b))
+      (λ κ k e. unless k (now (e .1 .1 .0))))
+      (λ u. Allows host-utc-to-gps.Post (λ κ a. (a .0 ≡ u) × (now (a .1 .0) ≡ b))
+      (λ κ k e. unless k (now (e .1 .1 .0))))
   -- `plaitgate_builtin_gps_to_utc` and `plaitgate_builtin_utc_to_gps`
   pub exported-built-in : TwoInstantsOf builtin
       (λ g. Allows host-builtin-gps-to-utc.Post (λ κ a. a .0 ≡ g) (λ κ k e. unless k (now (e .1 .0))))

@@ -45,7 +45,8 @@ pub extern "C" fn plaitgate_utc_as_seconds(count: u64, seconds: &mut u64) -> u32
 
 #[no_mangle]
 pub extern "C" fn plaitgate_utc_as_parts(count: u64, seconds: &mut u64, nanos: &mut u32) -> u32
-    ensures { λ r. ⌜ Gives (partsOf 0) (answered (partsOf count)) r (record { seconds = now (seconds .exit); nanos = now (nanos .exit) }) ⌝ }
+    ensures { λ r. ⌜ Gives (partsOf 0) (answered (partsOf count)) r
+        (record { seconds = now (seconds .exit); nanos = now (nanos .exit) }) ⌝ }
 {
     let parts = Utc(count).as_parts();
     *seconds = parts.seconds;
@@ -110,7 +111,8 @@ pub extern "C" fn plaitgate_utc_limits(
     max: &mut u64,
     nanos_per_year: &mut u64,
 ) -> u32
-    ensures { λ r. ⌜ Gives (limitsAt 0 0 0 0) (answered limits) r (limitsAt (now (epoch .exit)) (now (min .exit)) (now (max .exit)) (now («nanos_per_year» .exit))) ⌝ }
+    ensures { λ r. ⌜ Gives (limitsAt 0 0 0 0) (answered limits) r
+        (limitsAt (now (epoch .exit)) (now (min .exit)) (now (max .exit)) (now («nanos_per_year» .exit))) ⌝ }
 {
     *epoch = Utc::EPOCH.0;
     *min = Utc::MIN.0;

@@ -23,7 +23,8 @@ read s = toZ-ofZ (s .fits .unix-day)
 module _ (c : call.Tie.Else2) where
   reached : Within (c .before .before .args .unix-day)
   reached =
-      within (c .before .before .args .unix-day) (subst (λ (z : ℤ). ltZ z (pos utcEpochDay) ≡ false) (read (c .before .before)) (c .before .if1 .left))
+      within (c .before .before .args .unix-day)
+      (subst (λ (z : ℤ). ltZ z (pos utcEpochDay) ≡ false) (read (c .before .before)) (c .before .if1 .left))
       (subst (λ (z : ℤ). ltZ (pos 214233) z ≡ false) (read (c .before .before)) (c .if2 .left))
 
   -- the days since 1972-01-01

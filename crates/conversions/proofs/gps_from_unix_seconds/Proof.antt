@@ -13,7 +13,8 @@ returns c =
     let start = c .before .before .before in
     let t = start .args .table in
     c .of .ensures ∙ c .before .gps-from-utc .ensures
-    ∙ ap (λ (o : Outcome ℕ). ofValid t (then o (utcToGps (entriesOf t)))) (c .before .before .from-unix-seconds .ensures ∙ ap unixToUtc (toZ-ofZ (start .fits .seconds)))
+    ∙ ap (λ (o : Outcome ℕ). ofValid t (then o (utcToGps (entriesOf t))))
+    (c .before .before .from-unix-seconds .ensures ∙ ap unixToUtc (toZ-ofZ (start .fits .seconds)))
 
 pub gps-from-unix-seconds-spec : {M : Type 1} → call.Statement.statement M
 gps-from-unix-seconds-spec = call.Tie.close (call.Tie.spec (search needs) (search needs) (search needs) returns)

@@ -4,7 +4,8 @@ use lib.IntN.{pos}
 use denote.Ref.{now}
 use Rattle.refusals.proofs.Given.{zeros-on-refusal}
 use Rattle.counts.specs.Exact.{up, down}
-use Rattle.conversions.specs.Conversions.{glonassEpoch, gpsToUtc, utcToGps, glonassToGps, gpsToGlonass, unixToGps, gpsToUnix}
+use Rattle.conversions.specs.Conversions.{glonassEpoch, gpsToUtc, utcToGps, glonassToGps, gpsToGlonass, unixToGps}
+use Rattle.conversions.specs.Conversions.{gpsToUnix}
 use Rattle.builtin.specs.Builtin.{builtin}
 use Rattle.plaitgate.proofs.by_builtin
 use Rattle.plaitgate.proofs.by_table
@@ -23,10 +24,12 @@ builtin-gps-to-utc κ a k e = zeros-on-refusal (gpsToUtc builtin (a .0))
 pub builtin-utc-to-gps : ZerosOnRefusal by_builtin.plaitgate_builtin_utc_to_gps.Reads.Post 0 (λ κ e. now (e .1 .0))
 builtin-utc-to-gps κ a k e = zeros-on-refusal (utcToGps builtin (a .0))
 
-pub builtin-glonass-to-gps : ZerosOnRefusal by_builtin.plaitgate_builtin_glonass_to_gps.Reads.Post 0 (λ κ e. now (e .1 .0))
+pub builtin-glonass-to-gps : ZerosOnRefusal by_builtin.plaitgate_builtin_glonass_to_gps.Reads.Post 0
+    (λ κ e. now (e .1 .0))
 builtin-glonass-to-gps κ a k e = zeros-on-refusal (glonassToGps builtin (a .0))
 
-pub builtin-gps-to-glonass : ZerosOnRefusal by_builtin.plaitgate_builtin_gps_to_glonass.Reads.Post 0 (λ κ e. now (e .1 .0))
+pub builtin-gps-to-glonass : ZerosOnRefusal by_builtin.plaitgate_builtin_gps_to_glonass.Reads.Post 0
+    (λ κ e. now (e .1 .0))
 builtin-gps-to-glonass κ a k e = zeros-on-refusal (gpsToGlonass builtin (a .0))
 
 pub builtin-gps-from-unix-seconds : ZerosOnRefusal by_builtin.plaitgate_builtin_gps_from_unix_seconds.Reads.Post
@@ -49,7 +52,8 @@ glonass-to-gps κ a k e = zeros-on-refusal (byImage (now (a .1 .0)) (λ es. glon
 pub gps-to-glonass : ZerosOnRefusal by_table.plaitgate_table_gps_to_glonass.Reads.Post 0 (λ κ e. now (e .1 .1 .0))
 gps-to-glonass κ a k e = zeros-on-refusal (byImage (now (a .1 .0)) (λ es. gpsToGlonass es (a .0)))
 
-pub gps-from-unix-seconds : ZerosOnRefusal by_table.plaitgate_table_gps_from_unix_seconds.Reads.Post 0 (λ κ e. now (e .1 .1 .0))
+pub gps-from-unix-seconds : ZerosOnRefusal by_table.plaitgate_table_gps_from_unix_seconds.Reads.Post 0
+    (λ κ e. now (e .1 .1 .0))
 gps-from-unix-seconds κ a k e = zeros-on-refusal (byImage (now (a .1 .0)) (λ es. unixToGps es (a .0)))
 
 pub gps-as-unix-seconds : ZerosOnRefusal by_table.plaitgate_table_gps_as_unix_seconds.Reads.Post

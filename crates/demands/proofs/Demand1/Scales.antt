@@ -26,7 +26,8 @@ gps-to-tai κ a k e = zeros-on-refusal (countOf (pos (a .0 + taiMinusGps)))
 pub gps-from-tai : ZerosOnRefusal gps_weeks.plaitgate_gps_from_tai.Reads.Post 0 (λ κ e. now (e .1 .0))
 gps-from-tai κ a k e = zeros-on-refusal (countOf (pos (a .0) -ℤ pos taiMinusGps))
 
-pub glonass-from-day-tod : ZerosOnRefusal glonass_days.plaitgate_glonass_from_day_tod.Reads.Post 0 (λ κ e. now (e .1 .1 .1 .0))
+pub glonass-from-day-tod : ZerosOnRefusal glonass_days.plaitgate_glonass_from_day_tod.Reads.Post 0
+    (λ κ e. now (e .1 .1 .1 .0))
 glonass-from-day-tod κ a k e = zeros-on-refusal (ofUnits daySeconds (a .0) (a .1 .0) (a .1 .1 .0))
 
 pub utc-from-unix-seconds : ZerosOnRefusal utc_unix.plaitgate_utc_from_unix_seconds.Reads.Post 0 (λ κ e. now (e .1 .0))

@@ -16,8 +16,10 @@ glonass-to-gps κ a x y e f p q = both p q
 pub gps-to-glonass : OneAnswerAndEnd by_table.plaitgate_table_gps_to_glonass.Reads.Post (λ κ e. now (e .1 .1 .0))
 gps-to-glonass κ a x y e f p q = both p q
 
-pub gps-from-unix-seconds : OneAnswerAndEnd by_table.plaitgate_table_gps_from_unix_seconds.Reads.Post (λ κ e. now (e .1 .1 .0))
+pub gps-from-unix-seconds : OneAnswerAndEnd by_table.plaitgate_table_gps_from_unix_seconds.Reads.Post
+    (λ κ e. now (e .1 .1 .0))
 gps-from-unix-seconds κ a x y e f p q = both p q
 
-pub gps-as-unix-seconds : OneAnswerAndEnd by_table.plaitgate_table_gps_as_unix_seconds.Reads.Post (λ κ e. now (e .1 .1 .0))
+pub gps-as-unix-seconds : OneAnswerAndEnd by_table.plaitgate_table_gps_as_unix_seconds.Reads.Post
+    (λ κ e. now (e .1 .1 .0))
 gps-as-unix-seconds κ a x y e f p q = both p q

@@ -20,7 +20,8 @@ list-len κ a x y e f p q = both p q
 pub list-is-empty : OneAnswerAndEnd list-is-empty-contract.Post (λ κ e. now (e .1 .0))
 list-is-empty κ a x y e f p q = both p q
 
-pub list-last-update : OneAnswerAndEnd list-last-update-contract.Post (λ κ e. foundAs (now (e .1 .0)) (now (e .1 .1 .0)))
+pub list-last-update : OneAnswerAndEnd list-last-update-contract.Post
+    (λ κ e. foundAs (now (e .1 .0)) (now (e .1 .1 .0)))
 list-last-update κ a x y e f p q = both p q
 
 pub list-current-tai-minus-utc : OneAnswerAndEnd list-current-tai-minus-utc-contract.Post (λ κ e. now (e .1 .0))

@@ -34,10 +34,12 @@ table-current-tai-minus-utc κ a x y e f p q = both p q
 pub table-tai-minus-utc-at : OneAnswerAndEnd table-tai-minus-utc-at-contract.Post (λ κ e. now (e .1 .1 .0))
 table-tai-minus-utc-at κ a x y e f p q = both p q
 
-pub table-last-update : OneAnswerAndEnd table-last-update-contract.Post (λ κ e. foundAs (now (e .1 .0)) (now (e .1 .1 .0)))
+pub table-last-update : OneAnswerAndEnd table-last-update-contract.Post
+    (λ κ e. foundAs (now (e .1 .0)) (now (e .1 .1 .0)))
 table-last-update κ a x y e f p q = both p q
 
-pub table-entry-at : OneAnswerAndEnd table-entry-at-contract.Post (λ κ e. foundAs (now (e .1 .1 .0)) (entry (now (e .1 .1 .1 .0)) (now (e .1 .1 .1 .1 .0))))
+pub table-entry-at : OneAnswerAndEnd table-entry-at-contract.Post
+    (λ κ e. foundAs (now (e .1 .1 .0)) (entry (now (e .1 .1 .1 .0)) (now (e .1 .1 .1 .1 .0))))
 table-entry-at κ a x y e f p q = both p q
 
 pub table-new : OneAnswerAndEnd table-new-contract.Post (λ κ e. now (e .0))

@@ -13,7 +13,8 @@ use Rattle.builtin.specs.Events.{eventThreshold}
 use Rattle.builtin.proofs.events.entry_of_event as call
 
 threshold-is : (c : call.Tie.After-threshold)
-    → countIn (c .threshold .result) ≡ eventThreshold (dateIn (c .before .args .date)) (c .before .args .«tai-minus-utc»)
+    → countIn (c .threshold .result)
+    ≡ eventThreshold (dateIn (c .before .args .date)) (c .before .args .«tai-minus-utc»)
 threshold-is c =
     c .threshold .ensures
     ∙ ap (eventThreshold (dateIn (c .before .args .date))) (toZ-ofZ (c .before .fits .«tai-minus-utc»))

@@ -21,7 +21,8 @@ returns : call.Tie.Need-returns
 returns c =
     let a = c .before .before .args in
     c .earlier .ensures
-    ∙ ap countOf (ap (λ (z : ℤ). pos (a .utc) -ℤ z) (shift (c .before)) ∙ taken (pos (a .utc)) (inNanos (a .offset)) (pos E))
+    ∙ ap countOf (ap (λ (z : ℤ). pos (a .utc) -ℤ z) (shift (c .before))
+    ∙ taken (pos (a .utc)) (inNanos (a .offset)) (pos E))
 
 pub tai-at-spec : {M : Type 1} → call.Statement.statement M
 tai-at-spec = call.Tie.close (call.Tie.spec (search needs) (search needs) returns)

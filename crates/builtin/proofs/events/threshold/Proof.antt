@@ -20,7 +20,8 @@ returns c =
     let midnight-is = sym (arm .before .before .utc-at-midnight .ensures) ∙ ap countIn (arm .utc .given .1) in
     let utc = arm .utc .given .0 .0 in
     c .tai-at .ensures
-    ∙ ap (λ (n : ℤ). countOf (pos utc -ℤ pos E +ℤ inNanos n)) (toZ-ofZ (arm .before .before .before .fits .«tai-minus-utc»))
+    ∙ ap (λ (n : ℤ). countOf (pos utc -ℤ pos E +ℤ inNanos n))
+    (toZ-ofZ (arm .before .before .before .fits .«tai-minus-utc»))
     ∙ ap countOf (sym (by-utc (dateIn (a .date)) (a .«tai-minus-utc») utc midnight-is))
     ∙ sym (goes-on (λ (u : ℕ). countOf (thresholdOf (dateIn (a .date)) (a .«tai-minus-utc»))) midnight-is)
 

@@ -28,7 +28,8 @@ returns-2 c =
     rw (rw (toZ-ofZ f) at (c .before .before .if1 .left))
     (c .earlier .ensures
     ∙ ap countOf
-    (ap (λ (z : ℤ). pos (a .utc) -ℤ z) (shift (c .before)) ∙ taken (pos (a .utc)) (inNanos (a .offset -ℤ pos 19)) (pos E)))
+    (ap (λ (z : ℤ). pos (a .utc) -ℤ z) (shift (c .before))
+    ∙ taken (pos (a .utc)) (inNanos (a .offset -ℤ pos 19)) (pos E)))
 
 pub gps-at-offset-spec : {M : Type 1} → call.Statement.statement M
 gps-at-offset-spec = call.Tie.close (call.Tie.spec returns (search needs) (search needs) returns-2)

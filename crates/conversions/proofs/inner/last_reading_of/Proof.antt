@@ -17,7 +17,8 @@ returns c =
     let fits : SFits w32 (a .first .offset) = search needs in
     c .second-reading .ensures
     ∙ ap (λ (n : ℤ). secondReading (c .before .before .before .utc .given .0 .0) n (a .reading)) (toZ-ofZ fits)
-    ∙ sym (ap (λ (u : CountAnswer). lastFor (countIn u) (a .first) (a .reading)) (c .before .before .before .utc .given .1))
+    ∙ sym (ap (λ (u : CountAnswer). lastFor (countIn u) (a .first) (a .reading))
+    (c .before .before .before .utc .given .1))
 
 pub last-reading-of-spec : {M : Type 1} → call.Statement.statement M
 last-reading-of-spec =

@@ -24,7 +24,8 @@ returns c =
     c .count-or .ensures
     ∙ ap (valueIn (a .first))
     (c .before .earlier .ensures
-    ∙ ap countOf (ap (λ (z : ℤ). pos (a .utc) -ℤ z) (shift (c .before .before)) ∙ taken (pos (a .utc)) (inNanos (a .offset)) (pos E)))
+    ∙ ap countOf (ap (λ (z : ℤ). pos (a .utc) -ℤ z) (shift (c .before .before))
+    ∙ taken (pos (a .utc)) (inNanos (a .offset)) (pos E)))
 
 pub second-reading-spec : {M : Type 1} → call.Statement.statement M
 second-reading-spec = call.Tie.close (call.Tie.spec (search needs) (search needs) (search needs) returns)

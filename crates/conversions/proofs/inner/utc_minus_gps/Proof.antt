@@ -16,7 +16,8 @@ sub-utc-minus-scale c = rw (widened tt (c .fits .offset)) (less-19-fits (c .args
 
 utc-minus-scale-requires : call.Tie.Need-utc-minus-scale-requires
 utc-minus-scale-requires c κs =
-    rw (widened tt (c .fits .offset), toZ-ofZ (less-19-fits (c .args .offset) (c .fits .offset))) (less-19-small (c .args .offset) (c .fits .offset))
+    rw (widened tt (c .fits .offset), toZ-ofZ (less-19-fits (c .args .offset) (c .fits .offset)))
+    (less-19-small (c .args .offset) (c .fits .offset))
 
 returns : call.Tie.Need-returns
 returns c =

@@ -13,7 +13,12 @@ sub-result c =
 
 returns : call.Tie.Need-returns
 returns c =
-    rw (toZ-ofZ (c .fits .lead), toZ-ofZ (nanos-fit (c .args .lead) (c .pre)), toZ-ofZ (shift-fits (c .args .lead) (c .pre)))
+    rw (
+      toZ-ofZ (c .fits .lead),
+      toZ-ofZ (nanos-fit (c .args .lead) (c .pre)),
+      toZ-ofZ
+          (shift-fits (c .args .lead) (c .pre)),
+    )
 
 pub utc-minus-scale-spec : {M : Type 1} → call.Statement.statement M
 utc-minus-scale-spec = call.Tie.close (call.Tie.spec (search needs) (search needs) mul-result sub-result returns)

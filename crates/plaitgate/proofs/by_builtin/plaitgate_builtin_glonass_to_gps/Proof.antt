@@ -8,7 +8,8 @@ use Rattle.plaitgate.proofs.by_builtin.plaitgate_builtin_glonass_to_gps
 returns : call.Tie.Need-returns
 returns c =
     let steps = c .before .before in
-    gives-step 0 (λ o. then o (utcToGps builtin)) (steps .gps-from-utc .ensures) (steps .before .utc-from-glonass .ensures)
+    gives-step 0 (λ o. then o (utcToGps builtin)) (steps .gps-from-utc .ensures)
+    (steps .before .utc-from-glonass .ensures)
     (c .count .ensures)
 
 pub plaitgate-builtin-glonass-to-gps-spec : {M : Type 1} → call.Statement.statement M

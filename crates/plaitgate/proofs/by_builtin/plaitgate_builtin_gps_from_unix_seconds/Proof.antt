@@ -10,7 +10,8 @@ use Rattle.plaitgate.proofs.by_builtin.plaitgate_builtin_gps_from_unix_
 returns : call.Tie.Need-returns
 returns c =
     let steps = c .before .before in
-    let utc = steps .before .from-unix-seconds .ensures ∙ ap unixToUtc (toZ-ofZ (steps .before .before .fits .seconds)) in
+    let utc =
+    steps .before .from-unix-seconds .ensures ∙ ap unixToUtc (toZ-ofZ (steps .before .before .fits .seconds)) in
     gives-step 0 (λ o. then o (utcToGps builtin)) (steps .gps-from-utc .ensures) utc (c .count .ensures)
 
 pub plaitgate-builtin-gps-from-unix-seconds-spec : {M : Type 1} → call.Statement.statement M

@@ -8,7 +8,8 @@ use Rattle.plaitgate.proofs.by_builtin.plaitgate_builtin_gps_to_glonass
 returns : call.Tie.Need-returns
 returns c =
     let steps = c .before .before in
-    gives-step 0 (λ o. then o (down glonassEpoch)) (steps .glonass-from-utc .ensures) (steps .before .utc-from-gps .ensures)
+    gives-step 0 (λ o. then o (down glonassEpoch)) (steps .glonass-from-utc .ensures)
+    (steps .before .utc-from-gps .ensures)
     (c .count .ensures)
 
 pub plaitgate-builtin-gps-to-glonass-spec : {M : Type 1} → call.Statement.statement M

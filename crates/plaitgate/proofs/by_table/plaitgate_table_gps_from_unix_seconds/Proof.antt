@@ -13,7 +13,8 @@ returns c =
     let steps = c .before .before in
     let start = steps .before .before .before in
     let utc = steps .before .from-unix-seconds .ensures ∙ ap unixToUtc (toZ-ofZ (start .fits .seconds)) in
-    gives-step 0 (λ o. byImage (now (start .args .image)) (λ es. then o (utcToGps es))) (steps .gps-from-utc .ensures) utc
+    gives-step 0 (λ o. byImage (now (start .args .image)) (λ es. then o (utcToGps es)))
+    (steps .gps-from-utc .ensures) utc
     (c .count .ensures)
 
 pub plaitgate-table-gps-from-unix-seconds-spec : {M : Type 1} → call.Statement.statement M

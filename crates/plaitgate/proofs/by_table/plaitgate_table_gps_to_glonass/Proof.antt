@@ -13,7 +13,8 @@ returns c =
     let a = steps .before .before .before .args in
     let eight = byImage-then (now (a .image)) (λ es. gpsToUtc es (a .gps)) (down glonassEpoch) in
     gives-same 0 eight
-    (gives-step 0 (λ o. then o (down glonassEpoch)) (steps .glonass-from-utc .ensures) (steps .before .utc-from-gps .ensures)
+    (gives-step 0 (λ o. then o (down glonassEpoch)) (steps .glonass-from-utc .ensures)
+    (steps .before .utc-from-gps .ensures)
     (c .count .ensures))
 
 pub plaitgate-table-gps-to-glonass-spec : {M : Type 1} → call.Statement.statement M

@@ -11,7 +11,8 @@ returns c =
     let start = c .before .before .before in
     gives-same 0
     (c .before .before .to-utc-nanos .ensures
-    ∙ ap (λ (y : ℤ). countAt (fields y (start .args .month) (start .args .day) (start .args .hour) (start .args .minute) (start .args .second) (start .args .nanos))) (toZ-ofZ (start .fits .year)))
+    ∙ ap (λ (y : ℤ). countAt (fields y (start .args .month) (start .args .day) (start .args .hour) (start .args .minute)
+    (start .args .second) (start .args .nanos))) (toZ-ofZ (start .fits .year)))
     (c .count .ensures)
 
 pub plaitgate-civil-to-utc-nanos-spec : {M : Type 1} → call.Statement.statement M

@@ -19,7 +19,10 @@ known e = sym (ap (λ (x : EntryAnswer). changed foundEntry (entryIn x)) e)
 pub entry-spec : {M : Type 1} → call.Statement.statement M
 entry-spec =
     call.Tie.close (call.Tie.spec (search needs) (search needs) (search needs) (search)
-    (λ c. gives-same (foundEntry none) (known (c .before .before .answer .given .1))
-    (refl, ap (λ (z : ℤ). foundAs 1 (entry (c .before .before .answer .given .0 .0 .«tai_nanos») z)) (toZ-ofZ (record { sfits = omega arith }))))
+    (λ c. gives-same (foundEntry none) (known (c .before .before .answer .given .1)) (
+      refl,
+      ap (λ (z : ℤ). foundAs 1 (entry (c .before .before .answer .given .0 .0 .«tai_nanos») z))
+          (toZ-ofZ (record { sfits = omega arith })),
+    ))
     (λ c. gives-same (foundEntry none) (known (c .enum-told .given .1)) (refl, refl))
     (λ c. gives-same (foundEntry none) (known (c .before .before .answer2 .given .1)) (c .number .ensures, refl)))

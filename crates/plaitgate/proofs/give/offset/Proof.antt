@@ -10,7 +10,8 @@ use Rattle.plaitgate.proofs.give.offset as call
 
 returns : call.Tie.Need-returns
 returns c =
-    gives-same (pos 0) (ap offsetIn (sym (c .before .answer .given .1))) (refl, toZ-ofZ (record { sfits = omega arith }))
+    gives-same (pos 0) (ap offsetIn (sym (c .before .answer .given .1)))
+    (refl, toZ-ofZ (record { sfits = omega arith }))
 
 pub offset-spec : {M : Type 1} → call.Statement.statement M
 offset-spec = call.Tie.close (call.Tie.spec (search needs) (search needs) (search) returns (λ c. search needs))

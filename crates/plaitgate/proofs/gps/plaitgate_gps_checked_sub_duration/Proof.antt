@@ -10,7 +10,8 @@ use Rattle.plaitgate.proofs.gps.plaitgate_gps_checked_sub_duration as c
 returns : call.Tie.Need-returns
 returns c =
     gives-same 0 (c .before .before .checked-sub-duration .ensures
-    ∙ ap (λ (z : ℤ). countOf (pos (c .before .before .before .args .count) -ℤ z)) (toZ-ofZ (c .before .before .before .fits .duration)))
+    ∙ ap (λ (z : ℤ). countOf (pos (c .before .before .before .args .count) -ℤ z))
+    (toZ-ofZ (c .before .before .before .fits .duration)))
     (c .gps-count .ensures)
 
 pub plaitgate-gps-checked-sub-duration-spec : {M : Type 1} → call.Statement.statement M

@@ -22,7 +22,8 @@ returns c =
     gives-same 0
     (ap (changed threshold)
     (c .before .before .entry-of-event .ensures
-    ∙ (λ i. entryOfEvent (on (toZ-ofZ (start .fits .year) i) (a .month) (a .day)) (toZ-ofZ (start .fits .«tai-minus-utc») i)))
+    ∙ (λ i. entryOfEvent (on (toZ-ofZ (start .fits .year) i) (a .month) (a .day))
+    (toZ-ofZ (start .fits .«tai-minus-utc») i)))
     ∙ of-entry (eventThreshold (on (a .year) (a .month) (a .day)) (a .«tai-minus-utc»)) (a .«tai-minus-utc»))
     (c .threshold .ensures)
 

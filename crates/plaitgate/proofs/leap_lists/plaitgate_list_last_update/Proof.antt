@@ -8,7 +8,8 @@ use Rattle.plaitgate.proofs.leap_lists.plaitgate_list_last_update as ca
 
 returns : call.Tie.Need-returns
 returns c =
-    gives-same (foundCount none) (ap (changed foundCount) (c .before .before .before .last-update .ensures)) (c .update .ensures)
+    gives-same (foundCount none) (ap (changed foundCount) (c .before .before .before .last-update .ensures))
+    (c .update .ensures)
 
 pub plaitgate-list-last-update-spec : {M : Type 1} → call.Statement.statement M
 plaitgate-list-last-update-spec = call.Tie.close (call.Tie.spec (search) (search) returns)

@@ -8,7 +8,8 @@ use Rattle.plaitgate.proofs.leap_tables.plaitgate_table_entry_at as cal
 
 returns : call.Tie.Need-returns
 returns c =
-    gives-same (foundEntry none) (ap (changed foundEntry) (c .before .before .before .before .entry-at .ensures)) (c .entry .ensures)
+    gives-same (foundEntry none) (ap (changed foundEntry) (c .before .before .before .before .entry-at .ensures))
+    (c .entry .ensures)
 
 pub plaitgate-table-entry-at-spec : {M : Type 1} → call.Statement.statement M
 plaitgate-table-entry-at-spec = call.Tie.close (call.Tie.spec (search) (search) returns)

@@ -17,8 +17,10 @@ returns c =
     let b = start .args .image .now in
     let built = wrote .before .before .before .build .result in
     let from = builtFrom (start .args .entries .now) in
-    ap (λ (k : ℕ). leaves k (wrote .write .last .1 .0)) (c .number .ensures ∙ sym (ap takenIn (told .written .given .1)))
-    ∙ not-written imageOf (sized b) (built .table) b (leaves (from .0) (imageOf (from .1))) (wrote .write .ensures) (λ z. number-not-zero (told .written .given .0 .0) (sym (ap takenIn (told .written .given .1)) ∙ z))
+    ap (λ (k : ℕ). leaves k (wrote .write .last .1 .0))
+    (c .number .ensures ∙ sym (ap takenIn (told .written .given .1)))
+    ∙ not-written imageOf (sized b) (built .table) b (leaves (from .0) (imageOf (from .1))) (wrote .write .ensures)
+    (λ z. number-not-zero (told .written .given .0 .0) (sym (ap takenIn (told .written .given .1)) ∙ z))
 
 returns-2 : call.Tie.Need-returns-2
 returns-2 c =
@@ -27,7 +29,8 @@ returns-2 c =
     let b = start .args .image .now in
     let built = wrote .before .before .before .build .result in
     ap (λ (k : ℕ). leaves k (wrote .write .last .1 .0)) (c .taken .ensures)
-    ∙ written imageOf (sized b) (built .table) b (builtFrom (start .args .entries .now)) (wrote .write .ensures) (ap takenIn (c .before .enum-told .given .1)) (wrote .before .before .before .build .ensures)
+    ∙ written imageOf (sized b) (built .table) b (builtFrom (start .args .entries .now)) (wrote .write .ensures)
+    (ap takenIn (c .before .enum-told .given .1)) (wrote .before .before .before .build .ensures)
 
 pub plaitgate-table-from-entries-spec : {M : Type 1} → call.Statement.statement M
 plaitgate-table-from-entries-spec =

@@ -8,7 +8,8 @@ use Rattle.plaitgate.proofs.leap_tables.plaitgate_table_last_update as 
 
 returns : call.Tie.Need-returns
 returns c =
-    gives-same (foundCount none) (ap (changed foundCount) (c .before .before .before .last-update .ensures)) (c .update .ensures)
+    gives-same (foundCount none) (ap (changed foundCount) (c .before .before .before .last-update .ensures))
+    (c .update .ensures)
 
 pub plaitgate-table-last-update-spec : {M : Type 1} → call.Statement.statement M
 plaitgate-table-last-update-spec = call.Tie.close (call.Tie.spec (search) (search) returns)

@@ -11,7 +11,9 @@ returns : call.Tie.Need-returns
 returns c =
     ap (λ (k : ℕ). leaves k (c .before .before .before .write .last .1 .0)) (c .taken .ensures)
     ∙ c .before .before .before .write .ensures
-    ∙ ap (λ (t : LeapTable). imageWritten t (c .before .before .before .before .before .before .before .args .image .now)) (c .before .before .before .before .before .new .ensures)
+    ∙ ap (λ (t : LeapTable). imageWritten t
+    (c .before .before .before .before .before .before .before .args .image .now))
+    (c .before .before .before .before .before .new .ensures)
 
 pub plaitgate-table-new-spec : {M : Type 1} → call.Statement.statement M
 plaitgate-table-new-spec =

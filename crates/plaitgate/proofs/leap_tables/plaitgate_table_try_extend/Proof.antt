@@ -15,7 +15,8 @@ returns c =
     let start = called .before .before .before in
     ap (λ (k : ℕ). leaves k (called .extend .last .0)) (c .taken .ensures)
     ∙ called .extend .ensures
-    ∙ ap (λ (z : ℤ). imageExtended (start .args .image .now) (entry (start .args .«tai-nanos») z)) (toZ-ofZ (start .fits .«tai-minus-utc»))
+    ∙ ap (λ (z : ℤ). imageExtended (start .args .image .now) (entry (start .args .«tai-nanos») z))
+    (toZ-ofZ (start .fits .«tai-minus-utc»))
 
 pub plaitgate-table-try-extend-spec : {M : Type 1} → call.Statement.statement M
 plaitgate-table-try-extend-spec = call.Tie.close (call.Tie.spec (search needs) (search needs) (search needs) returns)

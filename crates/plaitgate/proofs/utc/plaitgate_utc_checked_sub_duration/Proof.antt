@@ -10,7 +10,8 @@ use Rattle.plaitgate.proofs.utc.plaitgate_utc_checked_sub_duration as c
 returns : call.Tie.Need-returns
 returns c =
     gives-same 0 (c .before .before .checked-sub-duration .ensures
-    ∙ ap (λ (z : ℤ). countOf (pos (c .before .before .before .args .count) -ℤ z)) (toZ-ofZ (c .before .before .before .fits .duration)))
+    ∙ ap (λ (z : ℤ). countOf (pos (c .before .before .before .args .count) -ℤ z))
+    (toZ-ofZ (c .before .before .before .fits .duration)))
     (c .utc-count .ensures)
 
 pub plaitgate-utc-checked-sub-duration-spec : {M : Type 1} → call.Statement.statement M

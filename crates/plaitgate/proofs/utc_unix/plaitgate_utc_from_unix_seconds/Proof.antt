@@ -10,7 +10,8 @@ use Rattle.plaitgate.proofs.utc_unix.plaitgate_utc_from_unix_seconds as
 returns : call.Tie.Need-returns
 returns c =
     gives-same 0 (c .before .before .from-unix-seconds .ensures
-    ∙ ap (λ (z : ℤ). countOf ((z -ℤ pos unixOffset) *ℤ pos second)) (toZ-ofZ (c .before .before .before .fits .seconds)))
+    ∙ ap (λ (z : ℤ). countOf ((z -ℤ pos unixOffset) *ℤ pos second))
+    (toZ-ofZ (c .before .before .before .fits .seconds)))
     (c .utc-count .ensures)
 
 pub plaitgate-utc-from-unix-seconds-spec : {M : Type 1} → call.Statement.statement M

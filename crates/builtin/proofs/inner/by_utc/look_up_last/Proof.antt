@@ -12,7 +12,8 @@ returns c =
     let utc = c .before .before .before .args .utc in
     let first = c .before .before .past-to-1993 in
     let last = c .before .past-from-1994 in
-    let sum : first .result + last .result ≡ countReached utc pastTo1993 + countReached utc pastFrom1994 = omega (arith, first .ensures .0, last .ensures .0) in
+    let sum : first .result + last .result ≡ countReached utc pastTo1993 + countReached utc pastFrom1994 =
+    omega (arith, first .ensures .0, last .ensures .0) in
     c .entry-told .ensures ∙ ap toldAt sum ∙ sym (one-lookup utc (omega arith))
 
 pub look-up-last-spec : {M : Type 1} → call.Statement.statement M

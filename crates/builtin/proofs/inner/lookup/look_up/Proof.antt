@@ -12,7 +12,8 @@ returns c =
     let tai = c .before .before .before .args .tai in
     let first = c .before .before .events-to-1993 in
     let last = c .before .events-from-1994 in
-    let sum : first .result + last .result ≡ countReached tai eventsTo1993 + countReached tai eventsFrom1994 = omega (arith, first .ensures .0, last .ensures .0) in
+    let sum : first .result + last .result ≡ countReached tai eventsTo1993 + countReached tai eventsFrom1994 =
+    omega (arith, first .ensures .0, last .ensures .0) in
     c .entry-told .ensures ∙ ap toldAt sum ∙ sym (counted tai)
 
 pub look-up-spec : {M : Type 1} → call.Statement.statement M

@@ -12,7 +12,8 @@ returns : call.Tie.Need-returns
 returns c =
     let read = c .before .before in
     c .utc-from-lookup .ensures
-    ∙ utc-from-store true builtin (countIn (read .before .before .args .gps)) (read .before .tai-of .ensures) (read .reading-of .ensures) (ap answered (c .before .look-up .ensures))
+    ∙ utc-from-store true builtin (countIn (read .before .before .args .gps)) (read .before .tai-of .ensures)
+    (read .reading-of .ensures) (ap answered (c .before .look-up .ensures))
 
 pub utc-from-gps-spec : {M : Type 1} → call.Statement.statement M
 utc-from-gps-spec = call.Tie.close (call.Tie.spec (search needs) (search needs) (search needs) (search needs) returns)

@@ -16,11 +16,14 @@ start c = c .before .before .before .before .before .before .before
 
 -- the first lookup tells, so the table is valid
 told : (c : call.Tie.After-first) → let t = start c .args .t2 in
-    answered (c .first .given .0 .0) ≡ ofValid t (answered (lookup (entriesOf t) (c .before .before .before .before .before .before .first-reading-of .result)))
+    answered (c .first .given .0 .0) ≡ ofValid t
+    (answered (lookup (entriesOf t) (c .before .before .before .before .before .before .first-reading-of .result)))
 told c = sym (ap lookupIn (c .first .given .1)) ∙ c .before .before .checked-look-up .ensures
 
 valid-table : (c : call.Tie.After-first) → Checked (start c .args .t2)
-valid-table c = checked _ (search needs) (search needs) (told-valid (lookup (entriesOf (start c .args .t2)) _) (validTable (start c .args .t2)) (told c))
+valid-table c =
+    checked _ (search needs) (search needs)
+    (told-valid (lookup (entriesOf (start c .args .t2)) _) (validTable (start c .args .t2)) (told c))
 
 look-up-requires : call.Tie.Need-look-up-requires
 look-up-requires c κs =
@@ -34,12 +37,14 @@ returns c =
     let a = start first .args in
     c .gps-from-lookup .ensures
     ∙ gps-from-store (validTable (a .t2)) (entriesOf (a .t2)) (countIn (a .utc))
-    (first .before .before .before .before .before .before .first-reading-of .ensures) (told first) (last .last-reading-of .ensures) (c .before .look-up .ensures)
+    (first .before .before .before .before .before .before .first-reading-of .ensures) (told first)
+    (last .last-reading-of .ensures) (c .before .look-up .ensures)
 
 returns-2 : call.Tie.Need-returns-2
 returns-2 c =
     let t = c .before .before .before .before .before .before .before .before .args .t2 in
-    told-refusal (lookup (entriesOf t) _) (validTable t) _ (sym (ap lookupIn (c .before .why .given .1)) ∙ c .before .before .before .checked-look-up .ensures)
+    told-refusal (lookup (entriesOf t) _) (validTable t) _
+    (sym (ap lookupIn (c .before .why .given .1)) ∙ c .before .before .before .checked-look-up .ensures)
 
 pub gps-from-utc-spec : {M : Type 1} → call.Statement.statement M
 gps-from-utc-spec =

@@ -12,7 +12,8 @@ returns c =
     let tai = read .before .before .before .before in
     let a = tai .before .args in
     c .utc-from-lookup .ensures
-    ∙ utc-from-store (validTable (a .t2)) (entriesOf (a .t2)) (countIn (a .gps)) (tai .tai-of .ensures) (read .reading-of .ensures) (c .before .checked-look-up .ensures)
+    ∙ utc-from-store (validTable (a .t2)) (entriesOf (a .t2)) (countIn (a .gps)) (tai .tai-of .ensures)
+    (read .reading-of .ensures) (c .before .checked-look-up .ensures)
 
 pub utc-from-gps-spec : {M : Type 1} → call.Statement.statement M
 utc-from-gps-spec = call.Tie.close (call.Tie.spec (search needs) (search needs) (search needs) (search needs) returns)

@@ -9,7 +9,8 @@ use Rattle.conversions.proofs.inner.steps.down as call
 returns : call.Tie.Need-returns
 returns c =
     c .minus .ensures
-    ∙ sym (goes-on (down (c .before .before .before .before .args .difference)) (ap countIn (c .before .before .answer .given .1)))
+    ∙ sym (goes-on (down (c .before .before .before .before .args .difference))
+    (ap countIn (c .before .before .answer .given .1)))
 
 returns-2 : call.Tie.Need-returns-2
 returns-2 c =

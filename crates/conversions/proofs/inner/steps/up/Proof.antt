@@ -9,7 +9,8 @@ use Rattle.conversions.proofs.inner.steps.up as call
 returns : call.Tie.Need-returns
 returns c =
     c .plus .ensures
-    ∙ sym (goes-on (up (c .before .before .before .before .args .difference)) (ap countIn (c .before .before .answer .given .1)))
+    ∙ sym (goes-on (up (c .before .before .before .before .args .difference))
+    (ap countIn (c .before .before .answer .given .1)))
 
 returns-2 : call.Tie.Need-returns-2
 returns-2 c = sym (stops (up (c .before .before .before .args .difference)) (ap countIn (c .before .answer2 .given .1)))
