@@ -1,5 +1,5 @@
 -- A number in bytes, read and written a byte at a time.
-use mathlib.Core.Path.{_≡_, refl, sym, ap, _∙_}
+use mathlib.Core.Path.{_≡_, refl, ap, _∙_}
 use mathlib.Core.List.{List, reverse-append}
 use Prim.Native.Nat.{ℕ, zero, suc, _+_, _-_, _*_, _/_, _%_, _^_, _≤_, _<_}
 use native.Mathlib.Nat.{pow-suc, pow-le-pow-right}
@@ -23,7 +23,8 @@ module _ (b : List ℕ) where
   four at = getD b at 0 + getD b (at + 1) 0 * 256 + getD b (at + 2) 0 * 65_536 + getD b (at + 3) 0 * 16_777_216
 
   first-four : (k at : ℕ) → at + 4 ≤ length b
-      → numberIn (take (suc (suc (suc (suc k)))) (drop at b)) ≡ four at + numberIn (take k (drop (at + 4) b)) * 4_294_967_296
+      → numberIn (take (suc (suc (suc (suc k)))) (drop at b))
+      ≡ four at + numberIn (take k (drop (at + 4) b)) * 4_294_967_296
   first-four k at h =
       omega (
         arith,
@@ -38,7 +39,8 @@ module _ (b : List ℕ) where
   number-in-4 at h = omega (arith, first-four 0 at h)
 
   pub number-in-8 : (at : ℕ) → at + 8 ≤ length b
-      → numberIn (take 4 (drop at b)) + numberIn (take 4 (drop (at + 4) b)) * 4_294_967_296 ≡ numberIn (take 8 (drop at b))
+      → numberIn (take 4 (drop at b)) + numberIn (take 4 (drop (at + 4) b)) * 4_294_967_296
+      ≡ numberIn (take 8 (drop at b))
   number-in-8 at h = omega (arith, first-four 4 at (omega arith), number-in-4 at (omega arith))
 
 -- ---- high byte first, from the first byte to the last
@@ -52,7 +54,7 @@ next-high b at i h =
     rw (more, take-suc (drop at b) i 0 there, reverse-append, getD-drop) (omega arith)
 
 pub byte-above : (n d i j : ℕ) → n < 256 ^ i → d < 256 → suc i ≡ j → n * 256 + d < 256 ^ j
-byte-above n d i j h l e = let p : 256 ^ j ≡ 256 ^ i * 256 = ap (λ (k : ℕ). 256 ^ k) (sym e) ∙ pow-suc 256 i in omega arith
+byte-above n d i j h l e = let p : 256 ^ j ≡ 256 ^ i * 256 = rw (← e, pow-suc) in omega arith
 
 -- fewer than eight bytes leave room for another
 pub room-for-byte : (n k : ℕ) → n < 256 ^ k → k ≤ 7 → n < 256 ^ 7

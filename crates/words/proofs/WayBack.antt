@@ -46,7 +46,9 @@ value-of-digits (suc k) n h =
 
 pub digits-are-digits : (k n : ℕ) → allDigits (inDigits k n) ≡ true
 digits-are-digits zero n = refl
-digits-are-digits (suc k) n = digits-snoc (inDigits k (n / 10)) (48 + n % 10) (digits-are-digits k (n / 10)) (a-digit (48 + n % 10) (omega arith) (omega arith))
+digits-are-digits (suc k) n =
+    let last = a-digit (48 + n % 10) (omega arith) (omega arith) in
+    digits-snoc (inDigits k (n / 10)) (48 + n % 10) (digits-are-digits k (n / 10)) last
 
 -- digits are those of their value
 digits-after : (bs : List ℕ) (v k : ℕ) → allDigits bs ≡ true
@@ -69,40 +71,38 @@ pub value-below : (bs : List ℕ) (v k : ℕ) → allDigits bs ≡ true → v < 
 value-below [] v k d h = rw add-zero h
 value-below (b ∷ bs) v k d h =
     let digit = digit-bounds b (first-half (isDigit b) (allDigits bs) d) in
+    let rest = second-half (isDigit b) (allDigits bs) d in
     let wider : k + suc (length bs) ≡ suc k + length bs = omega arith in
-    rw wider (value-below bs (v * 10 + (b - 48)) (suc k) (second-half (isDigit b) (allDigits bs) d) (omega (arith, pow-suc 10 k)))
+    rw wider (value-below bs (v * 10 + (b - 48)) (suc k) rest (omega (arith, pow-suc 10 k)))
+
+-- a number has one place, or one more than its tens have
+by-places : (P : ℕ → Type 0) (k n : ℕ) → (n < 10 → P 1) → (10 ≤ n → P (suc (placesUpTo k (n / 10))))
+    → P (placesUpTo (suc k) n)
+unfolding placesUpTo
+by-places P k n one more = go (decLt n 10)
+  where
+    go : Dec (n < 10) → P (placesUpTo (suc k) n)
+    go (yes l) = rw (lt-ltb n 10 l) (one l)
+    go (no m) = let h : 10 ≤ n = omega (arith, m) in rw (le-ltb n 10 h) (more h)
 
 -- the places of a number of at most k digits hold it
 places-hold : (k n : ℕ) → n < 10 ^ k → n < 10 ^ placesUpTo k n
 unfolding placesUpTo
 places-hold zero n h = h
-places-hold (suc k) n h = by-size (decLt n 10) (places-hold k (n / 10) (omega (arith, pow-suc 10 k)))
-  where
-    by-size : Dec (n < 10) → n / 10 < 10 ^ placesUpTo k (n / 10) → n < 10 ^ placesUpTo (suc k) n
-    by-size (yes l) rest = rw (lt-ltb n 10 l) (omega arith)
-    by-size (no m) rest = rw (le-ltb n 10 (omega (arith, m))) (omega (arith, pow-suc 10 (placesUpTo k (n / 10))))
+places-hold (suc k) n h =
+    let rest = places-hold k (n / 10) (omega (arith, pow-suc 10 k)) in
+    by-places (λ p. n < 10 ^ p) k n (λ l. omega arith) (λ l. omega (arith, pow-suc 10 (placesUpTo k (n / 10))))
 
 places-most : (k n : ℕ) → placesUpTo k n ≤ k
 unfolding placesUpTo
 places-most zero n = omega arith
-places-most (suc k) n = by-size (decLt n 10) (places-most k (n / 10))
-  where
-    by-size : Dec (n < 10) → placesUpTo k (n / 10) ≤ k → placesUpTo (suc k) n ≤ suc k
-    by-size (yes l) rest = rw (lt-ltb n 10 l) (omega arith)
-    by-size (no m) rest = rw (le-ltb n 10 (omega (arith, m))) (omega arith)
-
-places-some : (k n : ℕ) → 0 < placesUpTo (suc k) n
-unfolding placesUpTo
-places-some k n = by-size (decLt n 10)
-  where
-    by-size : Dec (n < 10) → 0 < placesUpTo (suc k) n
-    by-size (yes l) = rw (lt-ltb n 10 l) (omega arith)
-    by-size (no m) = rw (le-ltb n 10 (omega (arith, m))) (omega arith)
+places-most (suc k) n = by-places (λ p. p ≤ suc k) k n (λ l. omega arith) (λ l. omega (arith, places-most k (n / 10)))
 
 pub decimal-length : (n : ℕ) → (0 < length (decimal n)) × (length (decimal n) ≤ 20)
 decimal-length n =
     let long = digits-length (placesUpTo 20 n) n in
-    (omega (arith, places-some 19 n), omega (arith, places-most 20 n))
+    let some = by-places (λ p. 0 < p) 19 n (λ l. omega arith) (λ l. omega arith) in
+    (omega arith, omega (arith, places-most 20 n))
 
 -- a count is read from its digits
 pub count-back : (n : ℕ) → n < 2 ^ 64 → countRead (decimal n) ≡ answered n

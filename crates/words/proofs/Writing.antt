@@ -12,7 +12,7 @@ use lib.ListN.{length, length-append, set}
 use lib.Pow.{pow-add}
 use lib.Seq.{sets, length-sets}
 use Rattle.words.specs.Decimal.{inDigits, placesUpTo}
-use Rattle.words.proofs.Stores.{sets-sets, sets-before}
+use Rattle.words.proofs.Stores.{sets-sets, sets-before, joined}
 
 pub digits-length : (k n : ℕ) → length (inDigits k n) ≡ k
 digits-length zero n = refl
@@ -23,21 +23,18 @@ digits-length (suc k) n =
 -- the digits of a number, cut after the first k
 pub cut : (j k n : ℕ) → inDigits (k + j) n ≡ inDigits k (n / 10 ^ j) ++ inDigits j n
 cut zero k n = rw (add-zero, div-one, append-nil)
-cut (suc j) k n =
-    rw add-suc
-    (ap (λ (l : List ℕ). l ++ ((48 + n % 10) ∷ [])) (cut j k (n / 10))
-    ∙ append-assoc (inDigits k (n / 10 / 10 ^ j)) (inDigits j (n / 10)) ((48 + n % 10) ∷ [])
-    ∙ ap (λ (m : ℕ). inDigits k m ++ inDigits (suc j) n) (div-div-eq-div-mul n 10 (10 ^ j) ∙ ap (λ (p : ℕ). n / p) (sym (pow-succ' 10 j))))
+cut (suc j) k n = rw (add-suc, cut j k (n / 10), append-assoc, div-div-eq-div-mul, pow-succ')
 
 -- the last j digits are those of the remainder
 pub of-remainder : (j n : ℕ) → inDigits j (n % 10 ^ j) ≡ inDigits j n
 of-remainder zero n = refl
 of-remainder (suc j) n =
     let pos : 0 < 10 ^ j = omega (arith, pow-le-pow-right {n = 10} (lit< tt) {i = 0} {j = j} zero-le) in
-    let parts : n % 10 ^ suc j ≡ n / 10 % 10 ^ j * 10 + n % 10 = ap (λ (p : ℕ). n % p) (pow-suc 10 j) ∙ mod-mul n {m = 10 ^ j} {c = 10} pos (lit< tt) in
+    let parts : n % 10 ^ suc j ≡ n / 10 % 10 ^ j * 10 + n % 10
+    = rw pow-suc (mod-mul n {m = 10 ^ j} {c = 10} pos (lit< tt)) in
     let high : n % 10 ^ suc j / 10 ≡ n / 10 % 10 ^ j = omega arith in
     let low : n % 10 ^ suc j % 10 ≡ n % 10 = omega arith in
-    rw (high, low) (ap (λ (l : List ℕ). l ++ ((48 + n % 10) ∷ [])) (of-remainder j (n / 10)))
+    rw (high, low, of-remainder j (n / 10))
 
 -- two digits by themselves, four as two and two, nine as one and two fours
 module _ (out : List ℕ) (at n : ℕ) where
@@ -46,23 +43,26 @@ module _ (out : List ℕ) (at n : ℕ) where
       let tens : n / 10 % 10 ≡ n / 10 = omega arith in
       rw (add-one, tens)
 
-  pub four-digits : sets (sets out at (inDigits 2 (n / 100))) (at + 2) (inDigits 2 (n % 100)) ≡ sets out at (inDigits 4 n)
+  pub four-digits : sets (sets out at (inDigits 2 (n / 100))) (at + 2) (inDigits 2 (n % 100))
+      ≡ sets out at (inDigits 4 n)
   four-digits =
       sets-sets (inDigits 2 (n / 100)) (inDigits 2 (n % 100)) out at
       ∙ ap (λ (l : List ℕ). sets out at (inDigits 2 (n / 100) ++ l)) (of-remainder 2 n)
       ∙ ap (sets out at) (sym (cut 2 2 n))
 
   pub nine-digits : n < 1000000000
-      → sets (sets (set out at (48 + n / 100000000)) (at + 1) (inDigits 4 (n / 10000 % 10000))) (at + 5) (inDigits 4 (n % 10000)) ≡ sets out at (inDigits 9 n)
+      → sets (sets (set out at (48 + n / 100000000)) (at + 1) (inDigits 4 (n / 10000 % 10000))) (at + 5)
+      (inDigits 4 (n % 10000))
+      ≡ sets out at (inDigits 9 n)
   nine-digits h =
       let start = set out at (48 + n / 100000000) in
       let first : n / 10000 / 10000 % 10 ≡ n / 100000000 = omega arith in
       let fours : inDigits 4 (n / 10000 % 10000) ++ inDigits 4 (n % 10000) ≡ inDigits 4 (n / 10000) ++ inDigits 4 n
-      = ap (λ (l : List ℕ). l ++ inDigits 4 (n % 10000)) (of-remainder 4 (n / 10000)) ∙ ap (λ (l : List ℕ). inDigits 4 (n / 10000) ++ l) (of-remainder 4 n) in
+      = λ i. of-remainder 4 (n / 10000) i ++ of-remainder 4 n i in
       let all : inDigits 9 n ≡ (48 + n / 100000000) ∷ (inDigits 4 (n / 10000) ++ inDigits 4 n)
-      = cut 4 5 n ∙ ap (λ (l : List ℕ). l ++ inDigits 4 n) (cut 4 1 (n / 10000) ∙ ap (λ (d : ℕ). (48 + d) ∷ inDigits 4 (n / 10000)) first) in
-      ap (λ (p : ℕ). sets (sets start (at + 1) (inDigits 4 (n / 10000 % 10000))) p (inDigits 4 (n % 10000))) (omega arith)
-      ∙ sets-sets (inDigits 4 (n / 10000 % 10000)) (inDigits 4 (n % 10000)) start (at + 1)
+      = cut 4 5 n ∙ ap (λ (l : List ℕ). l ++ inDigits 4 n) (cut 4 1 (n / 10000))
+      ∙ ap (λ (d : ℕ). (48 + d) ∷ (inDigits 4 (n / 10000) ++ inDigits 4 n)) first in
+      joined start (at + 1) (at + 5) (inDigits 4 (n / 10000 % 10000)) (inDigits 4 (n % 10000)) refl (omega arith) refl
       ∙ ap (λ (p : ℕ). sets start p (inDigits 4 (n / 10000 % 10000) ++ inDigits 4 (n % 10000))) (add-one at)
       ∙ ap (sets start (suc at)) fours ∙ ap (sets out at) (sym all)
 
@@ -85,7 +85,7 @@ module _ {out₀ : List ℕ} {at width n : ℕ} where
         let wider : width - (left - k) ≡ k + (width - left) = omega (arith, h .within) in
         let sum : width - left + k ≡ k + (width - left) = omega arith in
         let place : at + left ≡ at + (left - k) + length (inDigits k rest) = omega (arith, digits-length k rest) in
-        let before = sets-before (inDigits k rest) (inDigits (width - left) n) out₀ (at + (left - k)) (at + left) place in
+        let before = sets-before (inDigits k rest) (inDigits (width - left) n) out₀ _ (at + left) place in
         record {
           within = omega (arith, h .within);
           digits = rw (h .digits) (before ∙ rw (wider, cut (width - left) k n, h .without));
@@ -102,7 +102,8 @@ unfolding placesUpTo
 places-are zero k n least most = rw (zero-add, lt-ltb n 10 (omega arith))
 places-are (suc j) k n least most =
     let big : 10 ≤ n = omega (arith, pow-le-pow-right {n = 10} (lit< tt) {i = 1} {j = suc j} (omega arith)) in
-    rw (suc-add, le-ltb n 10 big) (ap suc (places-are j k (n / 10) (omega (arith, pow-suc 10 j)) (omega (arith, pow-suc 10 (suc j)))))
+    rw (suc-add, le-ltb n 10 big)
+    (ap suc (places-are j k (n / 10) (omega (arith, pow-suc 10 j)) (omega (arith, pow-suc 10 (suc j)))))
 
 -- the last turn of `counted_places`, and another: the rest has at most k digits
 pub last-place : (k rest : ℕ) → 0 < k → rest < 10 → placesUpTo k rest ≡ 1

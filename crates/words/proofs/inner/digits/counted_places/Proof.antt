@@ -34,4 +34,12 @@ returns c =
 pub counted-places-spec : {M : Type 1} → call.Statement.statement M
 counted-places-spec =
     call.Tie.close
-    (call.Tie.spec Inv-loop μ-loop loop-holds (λ c. search needs) (λ c. search needs) loop-again (λ c. search needs) returns)
+    (call.Tie.spec
+    Inv-loop
+    μ-loop
+    loop-holds
+    (λ c. search needs)
+    (λ c. search needs)
+    loop-again
+    (λ c. search needs)
+    returns)

@@ -17,7 +17,8 @@ loop-again : call.Tie.Need-loop-again Inv-loop μ-loop
 loop-again c =
     let four = c .before .before in
     let s = four .before .before .before .loop in
-    rw (four .put-four .ensures ∙ ap (sets (s .out) _) (of-remainder 4 (s .rest))) (some-written (s .inv) 4 (omega arith))
+    rw (four .put-four .ensures ∙ ap (sets (s .out) _) (of-remainder 4 (s .rest)))
+    (some-written (s .inv) 4 (omega arith))
 
 returns : call.Tie.Need-returns Inv-loop μ-loop
 returns c =
