@@ -12,7 +12,7 @@ use lib.ListN.{length, length-append, set}
 use lib.Pow.{pow-add}
 use lib.Seq.{sets, length-sets}
 use Rattle.words.specs.Decimal.{inDigits, placesUpTo}
-use Rattle.words.proofs.Stores.{sets-sets, sets-before, joined}
+use Rattle.words.proofs.Stores.{sets-before, joined}
 
 pub digits-length : (k n : ℕ) → length (inDigits k n) ≡ k
 digits-length zero n = refl
@@ -43,28 +43,28 @@ module _ (out : List ℕ) (at n : ℕ) where
       let tens : n / 10 % 10 ≡ n / 10 = omega arith in
       rw (add-one, tens)
 
-  pub four-digits : sets (sets out at (inDigits 2 (n / 100))) (at + 2) (inDigits 2 (n % 100))
-      ≡ sets out at (inDigits 4 n)
-  four-digits =
-      sets-sets (inDigits 2 (n / 100)) (inDigits 2 (n % 100)) out at
-      ∙ ap (λ (l : List ℕ). sets out at (inDigits 2 (n / 100) ++ l)) (of-remainder 2 n)
-      ∙ ap (sets out at) (sym (cut 2 2 n))
+  module _ {x y : List ℕ} where
+    pub four-digits : x ≡ sets out at (inDigits 2 (n / 100)) → y ≡ sets x (at + 2) (inDigits 2 (n % 100))
+        → y ≡ sets out at (inDigits 4 n)
+    four-digits e f =
+        joined out at (at + 2) (inDigits 2 (n / 100)) (inDigits 2 (n % 100)) e refl f
+        ∙ ap (λ (l : List ℕ). sets out at (inDigits 2 (n / 100) ++ l)) (of-remainder 2 n)
+        ∙ ap (sets out at) (sym (cut 2 2 n))
 
-  pub nine-digits : n < 1000000000
-      → sets (sets (set out at (48 + n / 100000000)) (at + 1) (inDigits 4 (n / 10000 % 10000))) (at + 5)
-      (inDigits 4 (n % 10000))
-      ≡ sets out at (inDigits 9 n)
-  nine-digits h =
-      let start = set out at (48 + n / 100000000) in
-      let first : n / 10000 / 10000 % 10 ≡ n / 100000000 = omega arith in
-      let fours : inDigits 4 (n / 10000 % 10000) ++ inDigits 4 (n % 10000) ≡ inDigits 4 (n / 10000) ++ inDigits 4 n
-      = λ i. of-remainder 4 (n / 10000) i ++ of-remainder 4 n i in
-      let all : inDigits 9 n ≡ (48 + n / 100000000) ∷ (inDigits 4 (n / 10000) ++ inDigits 4 n)
-      = cut 4 5 n ∙ ap (λ (l : List ℕ). l ++ inDigits 4 n) (cut 4 1 (n / 10000))
-      ∙ ap (λ (d : ℕ). (48 + d) ∷ (inDigits 4 (n / 10000) ++ inDigits 4 n)) first in
-      joined start (at + 1) (at + 5) (inDigits 4 (n / 10000 % 10000)) (inDigits 4 (n % 10000)) refl (omega arith) refl
-      ∙ ap (λ (p : ℕ). sets start p (inDigits 4 (n / 10000 % 10000) ++ inDigits 4 (n % 10000))) (add-one at)
-      ∙ ap (sets start (suc at)) fours ∙ ap (sets out at) (sym all)
+    pub nine-digits : n < 1000000000
+        → x ≡ sets (set out at (48 + n / 100000000)) (at + 1) (inDigits 4 (n / 10000 % 10000))
+        → y ≡ sets x (at + 5) (inDigits 4 (n % 10000)) → y ≡ sets out at (inDigits 9 n)
+    nine-digits h e f =
+        let start = set out at (48 + n / 100000000) in
+        let first : n / 10000 / 10000 % 10 ≡ n / 100000000 = omega arith in
+        let fours : inDigits 4 (n / 10000 % 10000) ++ inDigits 4 (n % 10000) ≡ inDigits 4 (n / 10000) ++ inDigits 4 n
+        = λ i. of-remainder 4 (n / 10000) i ++ of-remainder 4 n i in
+        let all : inDigits 9 n ≡ (48 + n / 100000000) ∷ (inDigits 4 (n / 10000) ++ inDigits 4 n)
+        = cut 4 5 n ∙ ap (λ (l : List ℕ). l ++ inDigits 4 n) (cut 4 1 (n / 10000))
+        ∙ ap (λ (d : ℕ). (48 + d) ∷ (inDigits 4 (n / 10000) ++ inDigits 4 n)) first in
+        joined start (at + 1) (at + 5) (inDigits 4 (n / 10000 % 10000)) (inDigits 4 (n % 10000)) e (omega arith) f
+        ∙ ap (λ (p : ℕ). sets start p (inDigits 4 (n / 10000 % 10000) ++ inDigits 4 (n % 10000))) (add-one at)
+        ∙ ap (sets start (suc at)) fours ∙ ap (sets out at) (sym all)
 
 -- a writer from the end: the digits from `left` on are written, and `rest` is the number without them
 pub record Written (out₀ : List ℕ) (at width n : ℕ) (out : List ℕ) (left rest : ℕ) : Type 0 where

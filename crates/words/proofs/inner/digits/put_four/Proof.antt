@@ -1,11 +1,6 @@
 -- `put_four`: two digits and two.
-use mathlib.Core.Path.{ap, _∙_}
-use mathlib.Core.List.{List}
-use Prim.Native.Nat.{ℕ, _+_, _%_}
 use borrow.Author.Needs.{needs}
 use denote.Ref.{now}
-use lib.Seq.{sets}
-use Rattle.words.specs.Decimal.{inDigits}
 use Rattle.words.proofs.Writing.{four-digits}
 use Rattle.words.proofs.inner.digits.put_four as call
 
@@ -14,9 +9,7 @@ returns c =
     let second = c .before .before in
     let first = second .before .before .before .before in
     let a = first .before .before .before .args in
-    second .put-two2 .ensures
-    ∙ ap (λ (l : List ℕ). sets l (a .at + 2) (inDigits 2 (a .n % 100))) (first .put-two .ensures)
-    ∙ four-digits (now (a .out)) (a .at) (a .n)
+    four-digits (now (a .out)) (a .at) (a .n) (first .put-two .ensures) (second .put-two2 .ensures)
 
 pub put-four-spec : {M : Type 1} → call.Statement.statement M
 put-four-spec =

@@ -1,13 +1,9 @@
 -- `put_nine`: a digit, four and four.
-use mathlib.Core.Path.{ap, _∙_}
-use mathlib.Core.List.{List}
-use Prim.Native.Nat.{ℕ, _+_, _%_}
+use mathlib.Core.Path.{_∙_}
 use native.Mathlib.Omega.{arith}
 use borrow.Author.Needs.{needs}
 use denote.Ref.{now}
 use lib.ListN.{length-set}
-use lib.Seq.{sets}
-use Rattle.words.specs.Decimal.{inDigits}
 use Rattle.words.proofs.Writing.{nine-digits}
 use Rattle.words.proofs.inner.digits.put_nine as call
 
@@ -21,9 +17,7 @@ returns c =
     let second = c .before .before in
     let first = second .before .before .before .before in
     let a = first .before .before .before .args in
-    second .put-four2 .ensures
-    ∙ ap (λ (l : List ℕ). sets l (a .at + 5) (inDigits 4 (a .n % 10000))) (first .put-four .ensures)
-    ∙ nine-digits (now (a .out)) (a .at) (a .n) (omega arith)
+    nine-digits (now (a .out)) (a .at) (a .n) (omega arith) (first .put-four .ensures) (second .put-four2 .ensures)
 
 pub put-nine-spec : {M : Type 1} → call.Statement.statement M
 put-nine-spec =
