@@ -54,27 +54,26 @@ module _ {t : LeapTable} (s : Sized t) where
   image-count =
       length-append (front t ++ middle t) (back t) ∙ omega (arith, before-back, all-bytes-count 4 (bits t), bits-count)
 
-  pub length-written : (b : List ℕ) → length b ≡ 776 → writtenFrom t 0 (sets b 0 (front t)) ≡ imageOf t
+  pub length-written : (b : List ℕ) {x : List ℕ} → length b ≡ 776 → x ≡ sets b 0 (front t)
+      → writtenFrom t 0 x ≡ imageOf t
   unfolding imageOf
-  length-written b l =
+  length-written b l e =
       let all = image-count ∙ sym l in
-      let parts = joined b 0 8 (front t) (middle t) refl (omega (arith, bytes-count 8 (t .len))) refl in
+      let parts = joined b 0 8 (front t) (middle t) e (omega (arith, bytes-count 8 (t .len))) refl in
       joined b 0 520 (front t ++ middle t) (back t) parts (omega (arith, before-back)) refl
       ∙ sets-eq (front t ++ middle t ++ back t) b 0 (omega arith) ∙ rw (zero-add, all, drop-length, append-nil)
 
-  pub slot-written : (b : List ℕ) (i v : ℕ) → i < 64 → v ≡ ofZ w32 (getD (t .offsets) i (pos 0))
-      → writtenFrom t (i + 1)
-      (sets (sets b (8 + 8 * i) (bytesOf 8 (getD (t .thresholds) i 0))) (520 + 4 * i) (bytesOf 4 v))
-      ≡ writtenFrom t i b
-  slot-written b i v l e =
-      let one = sets b (8 + 8 * i) (bytesOf 8 (getD (t .thresholds) i 0)) in
+  pub slot-written : (b : List ℕ) (i : ℕ) {x y : List ℕ} {v : ℕ} → i < 64
+      → x ≡ sets b (8 + 8 * i) (bytesOf 8 (getD (t .thresholds) i 0)) → v ≡ ofZ w32 (getD (t .offsets) i (pos 0))
+      → y ≡ sets x (520 + 4 * i) (bytesOf 4 v) → writtenFrom t (i + 1) y ≡ writtenFrom t i b
+  slot-written b i {x} {y} {v} l e f g =
       let rest = bytesOfAll 8 (drop (i + 1) (t .thresholds)) in
       let apart : 8 + 8 * (i + 1) + length rest ≤ 520 + 4 * i
       = rw (all-bytes-count, length-drop) (omega (arith, s .thresholds)) in
-      let bits-are = e ∙ sym (List·getD-map (ofZ w32) (t .offsets) i (pos 0)) in
-      rw (sets-apart rest (bytesOf 4 v) one (8 + 8 * (i + 1)) (520 + 4 * i) apart)
+      let bits-are = f ∙ sym (List·getD-map (ofZ w32) (t .offsets) i (pos 0)) in
+      rw (g, sets-apart rest (bytesOf 4 v) x (8 + 8 * (i + 1)) (520 + 4 * i) apart)
       (field-written _ (bits t) 4 520 i v (omega (arith, bits-count)) bits-are
-      ∙ rw (field-written b (t .thresholds) 8 8 i _ (omega (arith, s .thresholds)) refl))
+      ∙ rw (e, field-written b (t .thresholds) 8 8 i _ (omega (arith, s .thresholds)) refl))
 
   pub all-slots-written : (b : List ℕ) (i : ℕ) → i ≡ 64 → writtenFrom t i b ≡ b
   all-slots-written b i e =

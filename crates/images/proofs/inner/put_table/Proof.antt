@@ -1,18 +1,15 @@
 -- `inner::put_table` writes the length, and then a threshold and an offset at each turn.
 use mathlib.Core.Path.{_≡_, sym, ap, _∙_}
-use mathlib.Core.List.{List}
-use Prim.Native.Nat.{ℕ, _+_, _-_, _*_, _≤_}
+use Prim.Native.Nat.{_-_, _≤_}
 use native.Mathlib.Omega.{arith}
 use borrow.Author.Needs.{needs}
 use denote.Ref.{now}
 use lib.ListN.{length, getD}
-use lib.Seq.{sets}
 use lib.IntN.{pos}
 use mir.Syntax.{w32}
 use mir.Val.{SFits, ofZ}
 use mir.Facts.{toZ-ofZ}
 use Rattle.tables.proofs.Extensions.{Sized}
-use Rattle.words.specs.Words.{bytesOf}
 use Rattle.images.specs.Image.{imageOf}
 use Rattle.images.proofs.Whole.{writtenFrom, length-written, slot-written, all-slots-written}
 use Rattle.images.proofs.inner.put_table as call
@@ -29,12 +26,9 @@ sizes c = search needs
 loop-holds : call.Tie.Need-loop-holds Inv-loop μ-loop
 loop-holds c =
     let first = c .before .before in
-    let start = first .before .before .before in (
-      search needs,
-      search needs,
-      ap (writtenFrom (start .args .t2) 0) (first .put-number .ensures)
-          ∙ length-written (sizes start) (now (start .args .image)) (search needs),
-    )
+    let start = first .before .before .before in
+    let written = length-written (sizes start) (now (start .args .image)) (search needs) (first .put-number .ensures) in
+    (search needs, search needs, written)
 
 loop-again : call.Tie.Need-loop-again Inv-loop μ-loop
 loop-again c =
@@ -46,13 +40,9 @@ loop-again c =
     let s = at .loop in
     let fits : SFits w32 (getD (start .args .t2 .offsets) (s .i) (pos 0)) = search needs in
     let bits-are = bits .ensures ∙ ap (ofZ w32) (toZ-ofZ fits) in
-    let written = third .put-number3 .ensures
-    ∙ ap (λ (l : List ℕ). sets l (520 + 4 * s .i) (bytesOf 4 (bits .result))) (second .put-number2 .ensures) in (
-      search needs,
-      search needs,
-      ap (writtenFrom (start .args .t2) (s .i + 1)) written
-          ∙ slot-written (sizes start) (s .image) (s .i) (bits .result) (omega arith) bits-are ∙ s .inv .2,
-    )
+    let written = slot-written (sizes start) (s .image) (s .i) (omega arith) (second .put-number2 .ensures) bits-are
+    (third .put-number3 .ensures) in
+    (search needs, search needs, written ∙ s .inv .2)
 
 returns : call.Tie.Need-returns Inv-loop μ-loop
 returns c =
