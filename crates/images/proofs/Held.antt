@@ -18,7 +18,7 @@ module _ (b : List ℕ) where
   abbrev pub holds : Bool
   holds = sized b && validTable (tableIn b)
 
-  -- of bytes of that size, with at most 64 slots, it is the test of the entries
+  -- with an image's size and at most 64 slots, the test is that of the entries
   pub by-entries : length b ≡ 776 → tableIn b .len ≤ 64 → valid (entriesOf (tableIn b)) ≡ holds
   by-entries s f = rw (eq-eqb (length b) 776 s, le-leb (tableIn b .len) 64 f)
 

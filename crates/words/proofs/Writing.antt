@@ -57,14 +57,12 @@ module _ (out : List ℕ) (at n : ℕ) where
     nine-digits h e f =
         let start = set out at (48 + n / 100000000) in
         let first : n / 10000 / 10000 % 10 ≡ n / 100000000 = omega arith in
-        let fours : inDigits 4 (n / 10000 % 10000) ++ inDigits 4 (n % 10000) ≡ inDigits 4 (n / 10000) ++ inDigits 4 n
-        = λ i. of-remainder 4 (n / 10000) i ++ of-remainder 4 n i in
-        let all : inDigits 9 n ≡ (48 + n / 100000000) ∷ (inDigits 4 (n / 10000) ++ inDigits 4 n)
+        let fours = inDigits 4 (n / 10000 % 10000) ++ inDigits 4 (n % 10000) in
+        let all : inDigits 9 n ≡ (48 + n / 100000000) ∷ fours
         = cut 4 5 n ∙ ap (λ (l : List ℕ). l ++ inDigits 4 n) (cut 4 1 (n / 10000))
-        ∙ ap (λ (d : ℕ). (48 + d) ∷ (inDigits 4 (n / 10000) ++ inDigits 4 n)) first in
+        ∙ (λ i. (48 + first i) ∷ (sym (of-remainder 4 (n / 10000)) i ++ sym (of-remainder 4 n) i)) in
         joined start (at + 1) (at + 5) (inDigits 4 (n / 10000 % 10000)) (inDigits 4 (n % 10000)) e (omega arith) f
-        ∙ ap (λ (p : ℕ). sets start p (inDigits 4 (n / 10000 % 10000) ++ inDigits 4 (n % 10000))) (add-one at)
-        ∙ ap (sets start (suc at)) fours ∙ ap (sets out at) (sym all)
+        ∙ ap (λ (p : ℕ). sets start p fours) (add-one at) ∙ ap (sets out at) (sym all)
 
 -- a writer from the end: the digits from `left` on are written, and `rest` is the number without them
 pub record Written (out₀ : List ℕ) (at width n : ℕ) (out : List ℕ) (left rest : ℕ) : Type 0 where
