@@ -7,10 +7,9 @@ use Rattle.refusals.proofs.Tells.{number-not-zero}
 use Rattle.refusals.specs.Outcome.{Outcome, refused}
 use Rattle.refusals.specs.declared.Refusal.{Refusal}
 use Rattle.tables.specs.Answers.{takenIn}
-use Rattle.tables.specs.Entries.{Entry, stepRefusal}
 use Rattle.tables.specs.declared.Taken.{Taken}
 use Rattle.tables.specs.declared.Taken.the-variants as taken
-use Rattle.lent.specs.Pass.{judged, ofTaken}
+use Rattle.lent.specs.Pass.{ofTaken}
 
 module _ (t : Taken) where
   pub none : t ≡ taken.Done → eqb (takenIn t) 0 ≡ true
@@ -24,10 +23,3 @@ module _ (t : Taken) where
 
   pub bad : {A : Type 0} (a : Outcome A) (why : Refusal) → t ≡ taken.Refused why → refused 8 ≡ ofTaken t a
   bad a why e = rw (one why e)
-
-  pub judged-on : (p n : Entry) → t ≡ taken.Done → stepRefusal p n ≡ judged (takenIn t) p n
-  judged-on p n e = rw (none e)
-
-  pub judged-already : (p n : Entry) (why : Refusal) → t ≡ taken.Refused why
-      → takenIn (taken.Refused why) ≡ judged (takenIn t) p n
-  judged-already p n why e = rw (one why e, e)

@@ -61,8 +61,8 @@ module _ {M : Type 1} {𝓤 : URA M} {H : Heap 𝓤} {A : Atoms 𝓤} {K : Type 
       λ v r. (raw (Tokens 𝓤 H A T c y) ⊛ ‵ (R .own r (v ∷ []))) ⊛ some (Ending r)
       in
       calls-at t (fmOf 𝓤 H (W .laws) 𝓣) (tripleOf 𝓤 H A (T .signature) (closing 𝓤 H A T c)) known y os (λ v.
-      use1 W (later (some (Back v))) (id⊢ 𝓤 _) $ await t tt $ pick t (λ r. split t $ move t (1 ∷ []) $ pick t (λ ws. split t $
-      move t (1 ∷ []) $ use1 W (raw (fact 𝓤 (φ r ws))) (tells r ws) $ heard t (φ r ws) (λ is.
+      use1 W (later (some (Back v))) (id⊢ 𝓤 _) $ await t tt $ pick t (λ r. split t $ move t (1 ∷ []) $ pick t (λ ws.
+      split t $ move t (1 ∷ []) $ use1 W (raw (fact 𝓤 (φ r ws))) (tells r ws) $ heard t (φ r ws) (λ is.
       -- [what says the last values; the tokens and the result; …]
       move t (1 ∷ []) $ split t $ move t (1 ∷ []) $ peeks t R (Is R) (shows 𝓤 H A R) r (v ∷ []) (λ g.
       let e = ap only (ν .tells r (v ∷ []) g) in

@@ -59,15 +59,16 @@ module _ {R : RattleType} (ν : Valued R) (ss : List (Slot 1)) (ks : Kepts ss) (
 
   pub asks : {M : Type 1} {𝓤 : URA M} {H : Heap 𝓤} {A : Atoms 𝓤} {K : Type 0} {W : Given 𝓤 H A} {Γ : List (Item 𝓤)}
       {E : Env 𝓤 H} {f : Name} {xs : List Operand} {Λ : Loops 𝓤 H} {p : Post 𝓤 H} {d : Place} {rest : Body}
-      → K → (𝓣 : Tables 𝓤 H) → Triple 𝓤 (𝓣 .C f) (Answering R ss ks 𝓤 H A ψ) → Makess 𝓤 H A Rs (Ises Rs) → Are Rs (Ises Rs) a vss
+      → K → (𝓣 : Tables 𝓤 H) → Triple 𝓤 (𝓣 .C f) (Answering R ss ks 𝓤 H A ψ)
+      → Makess 𝓤 H A Rs (Ises Rs) → Are Rs (Ises Rs) a vss
       → Opds K W (raw (Answering R ss ks 𝓤 H A ψ .pre (y 𝓤 H A)) ∷ ‵ (List& κ x) ∷ Γ) E xs (slice-vals x ++ flat Rs vss)
       → ((r : R .Denot) → ψ (κ, tt) (x, a) r → Is R r (ν .val r ∷ [])
       → Seq K W (‵ (List& κ x) ∷ Token 𝓤 A κ q ∷ Γ) (lands (𝓣 .C) Λ E d (ν .val r) rest p))
       → Seq K W (‵ (List& κ x) ∷ Token 𝓤 A κ q ∷ Γ) (runs (𝓣 .C) Λ E (seq (call f xs d) rest) p)
   asks {𝓤 = 𝓤} {H = H} {A = A} {W = W} t 𝓣 known makes are os k =
-      use1 W (‵ (List& κ x) ⊛ ‵ (List& κ x)) (shr-slice-copy 𝓤 H A W (named 0) κ E.the-row .twice x (slice-vals x)) $ split t $
-      move t (1 ∷ []) $ use0 W (‵ (owns Rs a vss)) (owns-make 𝓤 H A Rs (Ises Rs) makes a vss are) $
+      use1 W (‵ (List& κ x) ⊛ ‵ (List& κ x)) (shr-slice-copy 𝓤 H A W (named 0) κ E.the-row .twice x (slice-vals x)) $
+      split t $ move t (1 ∷ []) $ use0 W (‵ (owns Rs a vss)) (owns-make 𝓤 H A Rs (Ises Rs) makes a vss are) $
       move t (1 ∷ 0 ∷ []) $ fjoin t $ move t (2 ∷ 0 ∷ []) $ join t $ nothing t $ move t (1 ∷ 0 ∷ []) $ join t $
       use1 W (raw (Answering R ss ks 𝓤 H A ψ .pre (y 𝓤 H A))) (id⊢ 𝓤 _) $
-      calls-told t 𝓣 (listed R ss ks) (lists R ss ks 𝓤 H A ψ) known (y 𝓤 H A) (λ r ws. ψ (κ, tt) (x, a) r) (λ r ws. id⊢ 𝓤 _) ν os
-      (λ r ws is g. move t (2 ∷ 0 ∷ []) $ move t (2 ∷ []) $ drop t $ k r is g)
+      calls-told t 𝓣 (listed R ss ks) (lists R ss ks 𝓤 H A ψ) known (y 𝓤 H A) (λ r ws. ψ (κ, tt) (x, a) r)
+      (λ r ws. id⊢ 𝓤 _) ν os (λ r ws is g. move t (2 ∷ 0 ∷ []) $ move t (2 ∷ []) $ drop t $ k r is g)

@@ -4,7 +4,7 @@ use base.Fml.{fsep}
 use types.Kit.{fpick, fpack}
 use denote.Memory.{cellAt, partAt, partOf}
 use denote.Struct.Steps.{spelt}
-use Rattle.lent.proofs.Walking.{List, [], _∷_, ℕ, URA, fullShare, Ty, Val, ent, fat, Heap, Atoms, sem, Goal}
+use Rattle.lent.proofs.Walking.{List, [], _∷_, ℕ, URA, fullShare, Ty, Val, ent, Fml, fat, Heap, Atoms, sem, Goal}
 use Rattle.lent.proofs.Walking.{Item, Given, Seq, ‵, _$_, _∵_, !, qed, move, drop, use1, done, fsplit, fjoin}
 use Rattle.lent.proofs.Walking.{RattleType, Is, shows, owned, peeks}
 use Rattle.lent.proofs.Values.{Valued}
@@ -15,9 +15,12 @@ module _ {R : RattleType} (ν : Valued R) {M : Type 1} {𝓤 : URA M} {H : Heap 
   unfolding partOf
   to-memory W x b o g =
       let v = ν .val x in
-      let Raw : List Ty → Type 1 = λ τs. ent 𝓤 (H .at fullShare (ν .mir) b o v) (sem 𝓤 H A (cellAt fullShare τs (v ∷ []) b o)) in
-      qed W (‵ (fat fullShare (ν .mir) b o v) ∷ []) ∵
-      use1 W (‵ (cellAt fullShare (R .mir) (v ∷ []) b o)) (subst Raw (sym (ν .one)) (W .laws .at-raw fullShare (ν .mir) b o v)) $
+      let Raw : List Ty → Fml = λ τs. cellAt fullShare τs (v ∷ []) b o in
+      let raws =
+      subst (λ (τs : List Ty). ent 𝓤 (H .at fullShare (ν .mir) b o v) (sem 𝓤 H A (Raw τs))) (sym (ν .one))
+      (W .laws .at-raw fullShare (ν .mir) b o v)
+      in
+      qed W (‵ (fat fullShare (ν .mir) b o v) ∷ []) ∵ use1 W (‵ (Raw (R .mir))) raws $
       owned ! R (Is R) (ν .makes W) x (v ∷ []) g $ move ! (1 ∷ 0 ∷ []) $ fjoin ! $
       fpack ! (List Val) (λ us. fsep (cellAt fullShare (R .mir) us b o) (R .own x us)) (v ∷ []) $ done !
 
@@ -27,8 +30,10 @@ module _ {R : RattleType} (ν : Valued R) {M : Type 1} {𝓤 : URA M} {H : Heap 
   unfolding partOf
   from-memory {W = W} t x b o k =
       let v = ν .val x in
-      let Raw : List Ty → Type 1 = λ τs. ent 𝓤 (sem 𝓤 H A (cellAt fullShare τs (v ∷ []) b o)) (H .at fullShare (ν .mir) b o v) in
+      let raws =
+      subst (λ (τs : List Ty). ent 𝓤 (sem 𝓤 H A (cellAt fullShare τs (v ∷ []) b o)) (H .at fullShare (ν .mir) b o v))
+      (sym (ν .one)) (W .laws .raw-at fullShare (ν .mir) b o v)
+      in
       fpick t (λ vs. fsplit t $
       spelt t R (Is R) (shows 𝓤 H A R) (λ u. ν .val u ∷ []) (ν .tells) fullShare x vs b o $ move t (1 ∷ []) $
-      peeks t R (Is R) (shows 𝓤 H A R) x (v ∷ []) (λ g. drop t $
-      use1 W (‵ (fat fullShare (ν .mir) b o v)) (subst Raw (sym (ν .one)) (W .laws .raw-at fullShare (ν .mir) b o v)) $ k g))
+      peeks t R (Is R) (shows 𝓤 H A R) x (v ∷ []) (λ g. drop t $ use1 W (‵ (fat fullShare (ν .mir) b o v)) raws $ k g))

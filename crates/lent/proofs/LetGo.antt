@@ -14,7 +14,8 @@ use denote.Triple.Clauses.{Lasts, atExit}
 use denote.Triple.End.{Kepts, Fins}
 use denote.Triple.Entry.{Res, alive}
 use denote.Triple.Table.{entered}
-use denote.Triple.Walked.{Stays, fitsOf, hasOf, stay-dropped, walkOf, ends-at, Walks, Silent, AllGo, goes-dropped, walk-meets}
+use denote.Triple.Walked.{Stays, fitsOf, hasOf, stay-dropped, goes-dropped, Silent, AllGo}
+use denote.Triple.Walked.{Walks, walkOf, ends-at, walk-meets}
 use types.Kit.{prop}
 use Rattle.lent.proofs.Walking.{List, [], _∷_, ℕ, URA, Name, Fn, ent, emp, id⊢, Heap, WpFn, Atoms, sem, Fun}
 use Rattle.lent.proofs.Walking.{givenOf, tables, tablesOf, Item, Given, Seq, ‵, raw, _$_, move, keep, use0, join}
@@ -35,8 +36,8 @@ fits κs [] ks a ws = tt
 fits κs (s ∷ ss) ks a ws = (tt, fits κs ss (ks .1) (a .1) (ws .1))
 
 -- a run, from what there is on entry to what a walk ends with
-abbrev pub Walk : {M : Type 1} (𝓤 : URA M) (H : Heap 𝓤) (A : Atoms 𝓤) (T : Ended) (hs : Stays (T .signature .params) (T .kept))
-    (c : Clauses 𝓤 T) → walkOf 𝓤 H A T hs c .Ghost → Fun 𝓤 → Type 1
+abbrev pub Walk : {M : Type 1} (𝓤 : URA M) (H : Heap 𝓤) (A : Atoms 𝓤) (T : Ended)
+    (hs : Stays (T .signature .params) (T .kept)) (c : Clauses 𝓤 T) → walkOf 𝓤 H A T hs c .Ghost → Fun 𝓤 → Type 1
 Walk 𝓤 H A T hs c y run =
     ent 𝓤 (onEntry 𝓤 H A (T .signature) (y .0 .0) (y .0 .1) (y .0 .3) (y .0 .4))
     (run (passed 𝓤 H A (T .signature) (y .0)) (walkOf 𝓤 H A T hs c .post y))
@@ -59,11 +60,12 @@ module _ {M : Type 1} (𝓤 : URA M) (H : Heap 𝓤) (A : Atoms 𝓤) where
 
 -- at the result r, of which the contract says what it does
 pub ends : {M : Type 1} {𝓤 : URA M} {H : Heap 𝓤} {A : Atoms 𝓤} {K : Type 0} {W : Given 𝓤 H A} {Γ : List (Item 𝓤)} → K
-    → (T : Ended) (c : Clauses 𝓤 T) (y : walkOf 𝓤 H A T (let-go T) c .Ghost) (ν : Valued (typeAt (T .signature .result) (y .0 .0)))
-    → (r : Res (T .signature) (y .0 .0)) (ws : Lasts T (y .0 .0) (y .0 .3))
+    → (T : Ended) (c : Clauses 𝓤 T) (y : walkOf 𝓤 H A T (let-go T) c .Ghost)
+    (ν : Valued (typeAt (T .signature .result) (y .0 .0))) (r : Res (T .signature) (y .0 .0)) (ws : Lasts T (y .0 .0) (y .0 .3))
     → Is (typeAt (T .signature .result) (y .0 .0)) r (ν .val r ∷ [])
     → ent 𝓤 (emp 𝓤) (c (y .0 .0) (y .0 .3) .ensures (y .1) r (atExit T (y .0 .0) (y .0 .3) ws))
-    → Seq K W (raw (alive 𝓤 H A (T .signature) (y .0 .0) (y .0 .1)) ∷ Γ) (prop (walkOf 𝓤 H A T (let-go T) c .post y (ν .val r)))
+    → Seq K W (raw (alive 𝓤 H A (T .signature) (y .0 .0) (y .0 .1)) ∷ Γ)
+    (prop (walkOf 𝓤 H A T (let-go T) c .post y (ν .val r)))
 ends {𝓤 = 𝓤} {H = H} {A = A} {W = W} t T c y ν r ws g said =
     let R = typeAt (T .signature .result) (y .0 .0) in
     let ss = T .signature .params in
@@ -73,11 +75,13 @@ ends {𝓤 = 𝓤} {H = H} {A = A} {W = W} t T c y ν r ws g said =
     use0 W (‵ ϕ) (had 𝓤 H A (y .0 .0) ss (T .kept) (y .0 .3) ws (y .0 .4)) $ use0 W (raw _) said $
     move t (1 ∷ 2 ∷ []) $ join t $ move t (2 ∷ 0 ∷ []) $ join t $ done t
 
-module _ {M : Type 1} (𝓤 : URA M) (H : Heap 𝓤) (𝓜 : Model 𝓤 H) (𝓖 : GhostRules 𝓤 H) (𝓡 : Running 𝓤 H 𝓜) (γ : Routines) where
+module _ {M : Type 1} (𝓤 : URA M) (H : Heap 𝓤) (𝓜 : Model 𝓤 H) (𝓖 : GhostRules 𝓤 H) (𝓡 : Running 𝓤 H 𝓜)
+    (γ : Routines) where
   abbrev pub Runs : Fn → Fun 𝓤
   Runs f = WpFn 𝓤 H (tables 𝓤 H 𝓜 𝓡 γ .C) (tables 𝓤 H 𝓜 𝓡 γ .Λ) f
 
-  module _ (T : Ended) (c : Clauses 𝓤 T) (k : Name) (f : Fn) (closed : Closed 𝓤 H (tables 𝓤 H 𝓜 𝓡 γ .C) (tables 𝓤 H 𝓜 𝓡 γ .Λ) k f) where
+  module _ (T : Ended) (c : Clauses 𝓤 T) (k : Name) (f : Fn)
+      (closed : Closed 𝓤 H (tables 𝓤 H 𝓜 𝓡 γ .C) (tables 𝓤 H 𝓜 𝓡 γ .Λ) k f) where
     pub by-walk : (hs : Stays (T .signature .params) (T .kept))
         → AllGo 𝓤 H (𝓖 .A) (givenOf 𝓤 H 𝓜 𝓖) (T .signature .lifetimes) (T .signature .params) (T .kept) hs
         → Walks 𝓤 H (𝓖 .A) T hs (Runs f) c
@@ -85,10 +89,12 @@ module _ {M : Type 1} (𝓤 : URA M) (H : Heap 𝓤) (𝓜 : Model 𝓤 H) (𝓖
     unfolding tablesOf
     by-walk hs gs walks =
         let W = givenOf 𝓤 H 𝓜 𝓖 in
+        let mono = WpFn-mono 𝓤 H (W .laws) (tablesOf 𝓤 H 𝓜 (tables 𝓤 H 𝓜 𝓡 γ)) f in
         entered 𝓤 H _ (tables 𝓤 H 𝓜 𝓡 γ .C) (tables 𝓤 H 𝓜 𝓡 γ .Λ) k f closed
-        (walk-meets 𝓤 H (𝓖 .A) T hs W gs c (Runs f) (WpFn-mono 𝓤 H (W .laws) (tablesOf 𝓤 H 𝓜 (tables 𝓤 H 𝓜 𝓡 γ)) f) walks)
+        (walk-meets 𝓤 H (𝓖 .A) T hs W gs c (Runs f) mono walks)
 
     pub by-walk-let-go : Silents 𝓤 H (𝓖 .A) (givenOf 𝓤 H 𝓜 𝓖) (T .signature .lifetimes) (T .signature .params) (T .kept)
         → Walks 𝓤 H (𝓖 .A) T (let-go T) (Runs f) c
         → Triple 𝓤 (tables 𝓤 H 𝓜 𝓡 γ .C k) (tripleOf 𝓤 H (𝓖 .A) (T .signature) (closing 𝓤 H (𝓖 .A) T c))
-    by-walk-let-go qs = by-walk (let-go T) (all-go 𝓤 H (𝓖 .A) (givenOf 𝓤 H 𝓜 𝓖) (T .signature .lifetimes) (T .signature .params) (T .kept) qs)
+    by-walk-let-go qs =
+        by-walk (let-go T) (all-go 𝓤 H (𝓖 .A) (givenOf 𝓤 H 𝓜 𝓖) _ (T .signature .params) (T .kept) qs)

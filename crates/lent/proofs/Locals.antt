@@ -40,7 +40,8 @@ module _ {M : Type 1} {𝓤 : URA M} {H : Heap 𝓤} {A : Atoms 𝓤} {K : Type 
 
   -- its cell and its death are entries n and n + 1
   pub frees-at : K → (n : ℕ) {τ : Ty} {b : ℕ} {v : Val} {E : Env 𝓤 H} {G : Goal 𝓤 H}
-      → _≡_ {A = Item 𝓤 × Item 𝓤} (nth 𝓤 H A n Γ, nth 𝓤 H A n (del 𝓤 H A n Γ)) (‵ (fat fullShare τ b 0 v), ‵ (fdies τ b))
+      → _≡_ {A = Item 𝓤 × Item 𝓤} (nth 𝓤 H A n Γ, nth 𝓤 H A n (del 𝓤 H A n Γ))
+      (‵ (fat fullShare τ b 0 v), ‵ (fdies τ b))
       → Step K W (del 𝓤 H A n (del 𝓤 H A n Γ)) (frees E G) Γ (frees ((τ, b) ∷ E) G)
   frees-at t n e = step (λ s.
       move t (n ∷ []) $ rewrite t 0 (λ (i : Item 𝓤). i) (ap (λ (x : Item 𝓤 × Item 𝓤). x .0) e) refl $ forget t 0 refl $

@@ -49,8 +49,8 @@ module _ (R : RattleType) {X : Type 0} (view : R .Denot → X) (f : Pass → X) 
   Reading H A = tripleOf 𝓤 H A (reader .signature) (closing 𝓤 H A reader reads)
 
 -- a call on a lent list, whose answer is viewed as g of the list
-abbrev pub Viewing : (R : RattleType) {X : Type 0} (view : R .Denot → X) (g : List LeapEntry → X) {M : Type 1} (𝓤 : URA M)
-    (H : Heap 𝓤) (A : Atoms 𝓤) → Contract 𝓤
+abbrev pub Viewing : (R : RattleType) {X : Type 0} (view : R .Denot → X) (g : List LeapEntry → X) {M : Type 1}
+    (𝓤 : URA M) (H : Heap 𝓤) (A : Atoms 𝓤) → Contract 𝓤
 Viewing R view g 𝓤 H A = Answering R [] tt 𝓤 H A (λ κs a r. view r ≡ g (a .0 .now))
 
 -- the code; τ is the machine's type of the answer
@@ -73,8 +73,8 @@ module _ {R : RattleType} (ν : Valued R) {X : Type 0} (view : R .Denot → X) {
   abbrev c : Atoms 𝓤 → Clauses 𝓤 T
   c A = lists R [] tt 𝓤 H A (λ κs a r. view r ≡ g (a .0 .now))
 
-  walks : (A : Atoms 𝓤) (W : Given 𝓤 H A) (𝓣 : Tables 𝓤 H) (#read : Name) → Triple 𝓤 (𝓣 .C over.Symbol.name) (Passing 𝓤 H A)
-      → Triple 𝓤 (𝓣 .C #read) (Reading R view f 𝓤 H A)
+  walks : (A : Atoms 𝓤) (W : Given 𝓤 H A) (𝓣 : Tables 𝓤 H) (#read : Name)
+      → Triple 𝓤 (𝓣 .C over.Symbol.name) (Passing 𝓤 H A) → Triple 𝓤 (𝓣 .C #read) (Reading R view f 𝓤 H A)
       → Walks 𝓤 H A T (let-go T) (WpFn 𝓤 H (𝓣 .C) (𝓣 .Λ) (reading (ν .mir) #read)) (c A)
   walks A W 𝓣 #read known-over known-read =
       walked 𝓤 H A T (let-go T) (c A) (WpFn 𝓤 H (𝓣 .C) (𝓣 .Λ) (reading (ν .mir) #read)) (λ κs. (slice-vals, tt))
@@ -87,13 +87,13 @@ module _ {R : RattleType} (ν : Valued R) {X : Type 0} (view : R .Denot → X) {
       pass1 ! (init ! 2 refl (tt, (tt, (record { fits = are .0 .0 .1 .0 }, tt)))) $ pass0 ! $ move ! (6 ∷ 7 ∷ []) $
       -- [the list; the token; _2 at 2; _1 at 4; _0 at 6]
       asks a-pass (plain (λ _. u64) ∷ []) (yes, tt) _ κ q x (0, tt) (vint w64 0 ∷ [], tt) ! 𝓣 known-over
-      (uint-makes 𝓤 H A W w64, tt) ((refl, lit< tt), tt) (and-then ! (held ! 4 refl) (and-then ! (lit ! tt) (no-more !)))
-      (λ p said gp. lands-at ! 2 refl (a-pass .typed W p gp) $
+      (uint-makes 𝓤 H A W w64, tt) ((refl, lit< tt), tt)
+      (and-then ! (held ! 4 refl) (and-then ! (lit ! tt) (no-more !))) (λ p said gp. lands-at ! 2 refl (a-pass .typed W p gp) $
       calls-plain ! 𝓣 (reader R view f 𝓤) (reads R view f 𝓤) known-read ((tt, tt, tt, (p, tt), (pv p ∷ [], tt)), tt)
       (a-pass .makes W, tt) (gp, tt) (id⊢ 𝓤 _) (id⊢ 𝓤 _) (λ r. view r ≡ f p) (λ r ws. id⊢ 𝓤 _) ν (arg ! 3 refl)
       (λ r is gr. lands-at ! 6 refl (ν .typed W r gr) $
-      returns ! (look ! 6 refl) $ frees-at ! 6 refl $ frees-at ! 4 refl $ frees-at ! 2 refl $ free0 ! $ move ! (1 ∷ []) $
-      ends ! T (c A) ((κs, qs, bounds, a, (slice-vals x, tt)), tt) ν r (tt, tt) gr
+      returns ! (look ! 6 refl) $ frees-at ! 6 refl $ frees-at ! 4 refl $ frees-at ! 2 refl $ free0 ! $
+      move ! (1 ∷ []) $ ends ! T (c A) ((κs, qs, bounds, a, (slice-vals x, tt)), tt) ν r (tt, tt) gr
       (factI 𝓤 _ (emp 𝓤) (is ∙ law (x .now) p said))))))
 
   pub reads-off : (𝓜 : Model 𝓤 H) (𝓖 : GhostRules 𝓤 H) (𝓡 : Running 𝓤 H 𝓜) (γ : Routines) (k #read : Name) {r : Routine}

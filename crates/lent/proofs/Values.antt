@@ -49,7 +49,8 @@ of-struct S laws facts = record {
   typed = λ {M} {𝓤} {H} {A} W x g. struct.lawful S laws 𝓤 H A W .typed x _ g .0;
 }
 
-abbrev of-enum : (S : enums.Declared) → enum.Laws S → Plainss (enums.variants S) → Few (enums.shape S) → Valued (enums.row S)
+abbrev of-enum : (S : enums.Declared) → enum.Laws S → Plainss (enums.variants S) → Few (enums.shape S)
+    → Valued (enums.row S)
 of-enum S laws facts few = record {
   mir = lone (enums.row S .mir);
   one = refl;

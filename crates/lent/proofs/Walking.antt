@@ -16,8 +16,8 @@ pub use ghost.Atoms.{Atoms, sem}
 pub use contract.Monad.{Fun, fact}
 pub use contract.Running.{givenOf, tables}
 unfoldable pub use contract.Running.{tablesOf}
-pub use types.Kit.{Goal, Item, Post, Given, Seq, Step, step, runs, lands, ‵, raw, some, later, _⊛_, _$_, _∵_, !, qed, by}
-pub use types.Kit.{move, keep, drop, use0, use1, use2, split, join, pick, await, rewrite, suffices, frame, done}
+pub use types.Kit.{Goal, Item, Post, Given, Seq, Step, step, runs, lands, ‵, raw, some, later, _⊛_, _$_, _∵_, !, qed}
+pub use types.Kit.{by, move, keep, drop, use0, use1, use2, split, join, pick, await, rewrite, suffices, frame, done}
 pub use types.Kit.{fsplit, fjoin, feqI}
 pub use types.Run.{Opds, look, init, stop, fld, from, load, lit, of-opd, addr, assigns, land, and-then, no-more}
 pub use types.Run.{forget, returns, params1, pass1, pass0, free1, free0}

@@ -1,14 +1,13 @@
 -- `inner::judge` asks the rule between neighbours where there is no refusal yet.
-use mathlib.Core.Path.{_∙_}
 use borrow.Author.Needs.{needs}
-use Rattle.lent.proofs.ByAnswer.{judged-on, judged-already}
+use Rattle.lent.proofs.ByAnswer.{none, one}
 use Rattle.lent.proofs.inner.judge as call
 
 returns : call.Tie.Need-returns
-returns c = let a = c .before .before .before .args in c .step .ensures ∙ judged-on (a .answer) (a .before) (a .next) (c .before .enum-told .given .1)
+returns c = rw (none _ (c .before .enum-told .given .1)) (c .step .ensures)
 
 returns-2 : call.Tie.Need-returns-2
-returns-2 c = let a = c .before .before .before .args in judged-already (a .answer) (a .before) (a .next) _ (c .before .answer .given .1)
+returns-2 c = let e = c .before .answer .given .1 in rw (one _ _ e, e)
 
 pub judge-spec : {M : Type 1} → call.Statement.statement M
 judge-spec =
