@@ -26,7 +26,8 @@ RefusedAlike = (A : Type 0) (t : LeapTable) (a : Outcome A) → t .len ≤ 64 �
 abbrev pub LookedUpAlike : Type 0
 LookedUpAlike =
     (t : LeapTable) (reading : ℕ) → t .len ≤ 64
-    → ofValidList (entriesOf t) (answered (offsetAt (entriesOf t) reading)) ≡ ofValid t (answered (offsetAt (entriesOf t) reading))
+    → ofValidList (entriesOf t) (answered (offsetAt (entriesOf t) reading))
+    ≡ ofValid t (answered (offsetAt (entriesOf t) reading))
 
 -- and two answers that meet the contracts of the two lookups are the same
 abbrev pub AnsweredAlike : Type 0

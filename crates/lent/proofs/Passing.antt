@@ -15,7 +15,8 @@ use lib.IntN.{pos, _+ℤ_}
 use mir.Syntax.{w32}
 use mir.Val.{SFits}
 use Rattle.tables.specs.Answers.{takenIn}
-use Rattle.tables.specs.Entries.{Entry, threshold, offset, entry, equal, neighbours, follows, valid, lastUpTo, telling, lookup, lastOr, currentOffset, lastUpdate, stepRefusal, firstRefusal, checking}
+use Rattle.tables.specs.Entries.{Entry, threshold, offset, entry, equal, neighbours, follows, valid, lastUpTo, telling}
+use Rattle.tables.specs.Entries.{lookup, lastOr, currentOffset, lastUpdate, stepRefusal, firstRefusal, checking}
 use Rattle.tables.specs.declared.Lookup.{Lookup}
 use Rattle.tables.proofs.Neighbours.{both, step-follows}
 use Rattle.lent.specs.declared.inner.Pass.{Pass}
@@ -69,9 +70,7 @@ from-second-on : (t k : ℕ) (p f : Entry) (r : ℕ) (es : List Entry)
     → passed (seen t (suc k) p (telling f) r) es
     ≡ seen t (suc k + length es) (lastOr p es) (telling (lastUpTo t f es)) (cond (eqb r 0) (firstRefusal (p ∷ es)) r)
 unfolding passed lastOr lastUpTo firstRefusal
-from-second-on t k p f r [] =
-    let n : suc k ≡ suc k + 0 = omega arith in
-    ap (λ (m : ℕ). seen t m p (telling f) r) n ∙ ap (seen t (suc k + 0) p (telling f)) (sym (unrefused r))
+from-second-on t k p f r [] = let n : suc k + 0 ≡ suc k = omega arith in rw (unrefused r, n)
 from-second-on t k p f r (e ∷ es) =
     let n : suc k + 1 ≡ suc (suc k) = omega arith in
     let m : suc (suc k) + length es ≡ suc k + suc (length es) = omega arith in
@@ -119,7 +118,8 @@ module _ (t : ℕ) where
   none-nearer p f [] v l = refl
   none-nearer p f (e ∷ es) v l =
       let h = both (follows p e) (valid (e ∷ es)) v in
-      let up = ltb-true (threshold p) (threshold e) (both (ltb (threshold p) (threshold e)) (equal (offset e) (offset p +ℤ pos 1)) (h .0) .0) in
+      let rises = both (ltb (threshold p) (threshold e)) (equal (offset e) (offset p +ℤ pos 1)) (h .0) .0 in
+      let up = ltb-true (threshold p) (threshold e) rises in
       let a : t < threshold e = omega arith in
       rw (lt-leb (threshold e) t a) (none-nearer e f es (h .1) a)
 
@@ -130,7 +130,7 @@ module _ (t : ℕ) where
     where
       by-order : Dec (t < threshold e) → telling (lastUpTo t e es) ≡ lookup (e ∷ es) t
       by-order (yes l) = rw (lt-ltb t (threshold e) l) (ap telling (none-nearer e e es v l))
-      by-order (no l) = let h : threshold e ≤ t = omega (arith, l) in rw (le-ltb t (threshold e) h, le-leb (threshold e) t h)
+      by-order (no l) = let h : threshold e ≤ t = omega arith in rw (le-ltb t _ h, le-leb _ t h)
 
 -- ---- among 32-bit offsets no entry is refused exactly if the list is valid
 both-none : (k m : ℕ) (b c : Bool) → eqb k 0 ≡ b → eqb m 0 ≡ c → eqb (cond (eqb k 0) m k) 0 ≡ (b && c)

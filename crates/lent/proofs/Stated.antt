@@ -25,14 +25,16 @@ module _ (T : Ended) where
   abbrev pub States : Contract → Fact → Type 2
   States c φ =
       (M : Type 1) (𝓤 : URA M) (H : Heap 𝓤) (A : Atoms 𝓤) (mem : Memory → SProp 𝓤) (run : Routine → Fun 𝓤)
-      (κs : Lfts (T .signature .lifetimes)) (a : Args (T .signature) κs) (g : c M 𝓤 H A mem run κs a .ghost) (r : Res (T .signature) κs) (e : AtExit T κs)
+      (κs : Lfts (T .signature .lifetimes)) (a : Args (T .signature) κs) (g : c M 𝓤 H A mem run κs a .ghost)
+      (r : Res (T .signature) κs) (e : AtExit T κs)
       → c M 𝓤 H A mem run κs a .ensures g r e ≡ fact 𝓤 (φ κs a r e)
 
   -- whatever the contract says, the fact follows
   abbrev pub Implies : Contract → Fact → Type 2
   Implies c φ =
       (M : Type 1) (𝓤 : URA M) (H : Heap 𝓤) (A : Atoms 𝓤) (mem : Memory → SProp 𝓤) (run : Routine → Fun 𝓤)
-      (κs : Lfts (T .signature .lifetimes)) (a : Args (T .signature) κs) (g : c M 𝓤 H A mem run κs a .ghost) (r : Res (T .signature) κs) (e : AtExit T κs)
+      (κs : Lfts (T .signature .lifetimes)) (a : Args (T .signature) κs) (g : c M 𝓤 H A mem run κs a .ghost)
+      (r : Res (T .signature) κs) (e : AtExit T κs)
       → ent 𝓤 (c M 𝓤 H A mem run κs a .ensures g r e) (fact 𝓤 (φ κs a r e))
 
   pub record LeavesOne (c : Contract) : Type 2 where
@@ -41,7 +43,8 @@ module _ (T : Ended) where
     pub one : OneAnswer says
 
   -- and one value through the references that it writes
-  pub record LeavesOneAndEnd {Left : Type 0} (c : Contract) (left : (κs : Lfts (T .signature .lifetimes)) → AtExit T κs → Left) : Type 2 where
+  pub record LeavesOneAndEnd {Left : Type 0} (c : Contract)
+      (left : (κs : Lfts (T .signature .lifetimes)) → AtExit T κs → Left) : Type 2 where
     pub says : Fact
     pub states : States c says
     pub one : OneAnswerAndEnd says left

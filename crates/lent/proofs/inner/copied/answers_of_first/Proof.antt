@@ -27,8 +27,9 @@ held c = search needs
 returns : call.Tie.Need-returns
 returns c =
     let s = c .before .before in
+    let lent = ap (λ (m : ℕ). take m (s .args .entries)) (c .before .shorter .ensures) in
     c .lent-to-all .ensures
-    ∙ ap (λ (es : List Entry). answersOf es (s .args .tai .0)) (ap (λ (m : ℕ). take m (s .args .entries)) (c .before .shorter .ensures) ∙ same (s .args .n) (s .args .entries) (held s))
+    ∙ ap (λ (es : List Entry). answersOf es (s .args .tai .0)) (lent ∙ same (s .args .n) (s .args .entries) (held s))
 
 pub answers-of-first-spec : {M : Type 1} → call.Statement.statement M
 answers-of-first-spec = call.Tie.close (call.Tie.spec (λ c κs. search needs) (λ c κs. search needs) returns)

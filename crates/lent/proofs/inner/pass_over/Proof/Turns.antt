@@ -11,7 +11,7 @@ use lib.ListN.{length, getD, drop}
 use mir.Syntax.{w32}
 use package.mir.Val.{SFits}
 use denote.Laws.{Is}
-use denote.Struct.Laws as LL
+use denote.Struct.Laws as struct
 use Rattle.tables.specs.Entries.{offset}
 use Rattle.tables.specs.declared.LeapEntry.{LeapEntry}
 use Rattle.tables.proofs.LeapEntry as E
@@ -54,10 +54,10 @@ module _ (t : ℕ) (ys : List LeapEntry) where
 
       -- the place of an entry, 16 bytes each, and the next place are numbers of 64 bits
       pub scaled : length ys * 16 < 2 ^ 63 → s .i * 16 < 2 ^ 64
-      scaled g = omega (arith, below, g)
+      scaled g = omega (arith, below)
 
       pub next-fits : length ys < 2 ^ 64 → s .i + 1 < 2 ^ 64
-      next-fits g = omega (arith, below, g)
+      next-fits g = omega (arith, below)
 
       pub count-fits : length ys < 2 ^ 64 → s .pass .count + 1 < 2 ^ 64
       count-fits g = omega (arith, next-fits g, s .counts)
@@ -65,10 +65,13 @@ module _ (t : ℕ) (ys : List LeapEntry) where
       pub less : length ys - (s .i + 1) < left
       less = omega (arith, below)
 
-      module _ (ge : Is E.the-row at-i (ev at-i ∷ [])) (p : Pass) (g : Is P.the-row p (pv p ∷ [])) (is : seenIn p ≡ after (seenIn (s .pass)) at-i) where
+      module _ (ge : Is E.the-row at-i (ev at-i ∷ [])) (p : Pass) (g : Is P.the-row p (pv p ∷ []))
+          (is : seenIn p ≡ after (seenIn (s .pass)) at-i) where
         pub one-more-fits : (k : ℕ) → k < s .i + 1 → Dec (k < s .i) → SFits w32 (offset (getD ys k noEntry))
         one-more-fits k l (yes h) = s .fits k h
-        one-more-fits k l (no h) = let e : k ≡ s .i = omega (arith, l, h) in rw e (record { sfits = LL.owed E.the-type E.Laws.the-laws at-i _ ge .1 .0 .1 })
+        one-more-fits k l (no h) =
+            let e : k ≡ s .i = omega arith in
+            rw e (record { sfits = struct.owed E.the-type E.Laws.the-laws at-i _ ge .1 .0 .1 })
 
         abbrev pub next : State t ys
         next = record {
@@ -87,4 +90,5 @@ module _ (t : ℕ) (ys : List LeapEntry) where
     all-seen y =
         let h = nltb→le (s .i) (length ys) y in
         let all = sym (at-end ys (seenIn (s .pass)) (s .i) h) ∙ s .comes in
-        (all, ap (λ (x : Seen). eqb (x .refusal) 0) all ∙ ap (λ (k : ℕ). eqb k 0) (first-found t ys) ∙ none-refused ys (λ k l. s .fits k (omega (arith, h))))
+        let refused = ap (λ (x : Seen). x .refusal) all ∙ first-found t ys in
+        (all, ap (λ (k : ℕ). eqb k 0) refused ∙ none-refused ys (λ k l. s .fits k (omega arith)))
