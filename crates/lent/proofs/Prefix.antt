@@ -4,9 +4,9 @@ use lib.ListN.{take}
 use base.Logic.{emp∗, snd∗}
 use types.Share.{parts, arr-parts}
 use denote.Memory.{mem, shares}
-use Rattle.lent.proofs.Walking.{_≡_, refl, List, [], _∷_, ℕ, length, URA, ent, sep, emp, Share, Fml, ftrue, Heap}
-use Rattle.lent.proofs.Walking.{Atoms, sem, Given, ‵, _⊛_, _$_, _∵_, !, qed, move, drop, use1, use2, split, done}
-use Rattle.lent.proofs.Walking.{fsplit, fjoin, feqI}
+use Rattle.lent.proofs.Walking.{_≡_, refl, List, [], _∷_, ℕ, length, URA, SProp, ent, sep, emp, Share, Fml}
+use Rattle.lent.proofs.Walking.{ftrue, Heap, Atoms, sem, Given, ‵, _⊛_, _$_, _∵_, !, qed, move, drop, use1, use2}
+use Rattle.lent.proofs.Walking.{split, done, fsplit, fjoin, feqI}
 use Rattle.tables.specs.declared.LeapEntry.{LeapEntry}
 use Rattle.tables.proofs.LeapEntry as E
 
@@ -25,31 +25,40 @@ abbrev pub Elems : Share → ℕ → List LeapEntry → ℕ → ℕ → Fml
 Elems q n ys b o = arr-parts (shares E.the-row) n .part q ys b o
 
 module _ {M : Type 1} (𝓤 : URA M) (H : Heap 𝓤) (A : Atoms 𝓤) (W : Given 𝓤 H A) (q : Share) where
+  abbrev ⟦_⟧ : Fml → SProp 𝓤
+  ⟦ F ⟧ = sem 𝓤 H A F
+
   row-out : (n : ℕ) (ys : List LeapEntry) (b o : ℕ)
-      → ent 𝓤 (sem 𝓤 H A (Row q ys b o)) (sep 𝓤 (sem 𝓤 H A (Row q (take n ys) b o)) (sem 𝓤 H A (Rest q n ys b o)))
-  row-out zero ys b o = emp∗ 𝓤 (sem 𝓤 H A (Row q ys b o))
+      → ent 𝓤 ⟦ Row q ys b o ⟧ (sep 𝓤 ⟦ Row q (take n ys) b o ⟧ ⟦ Rest q n ys b o ⟧)
+  row-out zero ys b o = emp∗ 𝓤 ⟦ Row q ys b o ⟧
   row-out (suc n) [] b o = emp∗ 𝓤 (emp 𝓤)
   row-out (suc n) (y ∷ ys) b o =
       let o′ = o + mem E.the-row .size in
-      qed W (‵ (Row q (y ∷ ys) b o) ∷ []) ∵ fsplit ! $ move ! (1 ∷ []) $ use1 W (‵ (Row q (take n ys) b o′) ⊛ ‵ (Rest q n ys b o′)) (row-out n ys b o′) $ split ! $ move ! (2 ∷ 0 ∷ []) $ fjoin ! $ done !
+      qed W (‵ (Row q (y ∷ ys) b o) ∷ []) ∵ fsplit ! $ move ! (1 ∷ []) $
+      use1 W (‵ (Row q (take n ys) b o′) ⊛ ‵ (Rest q n ys b o′)) (row-out n ys b o′) $
+      split ! $ move ! (2 ∷ 0 ∷ []) $ fjoin ! $ done !
 
   row-in : (n : ℕ) (ys : List LeapEntry) (b o : ℕ)
-      → ent 𝓤 (sep 𝓤 (sem 𝓤 H A (Row q (take n ys) b o)) (sem 𝓤 H A (Rest q n ys b o))) (sem 𝓤 H A (Row q ys b o))
-  row-in zero ys b o = snd∗ 𝓤 (emp 𝓤) (sem 𝓤 H A (Row q ys b o))
+      → ent 𝓤 (sep 𝓤 ⟦ Row q (take n ys) b o ⟧ ⟦ Rest q n ys b o ⟧) ⟦ Row q ys b o ⟧
+  row-in zero ys b o = snd∗ 𝓤 (emp 𝓤) ⟦ Row q ys b o ⟧
   row-in (suc n) [] b o = snd∗ 𝓤 (emp 𝓤) (emp 𝓤)
   row-in (suc n) (y ∷ ys) b o =
       let o′ = o + mem E.the-row .size in
-      qed W (‵ (Row q (y ∷ take n ys) b o) ∷ ‵ (Rest q n ys b o′) ∷ []) ∵ fsplit ! $ move ! (1 ∷ 2 ∷ []) $ use2 W (‵ (Row q ys b o′)) (row-in n ys b o′) $ move ! (1 ∷ 0 ∷ []) $ fjoin ! $ done !
+      qed W (‵ (Row q (y ∷ take n ys) b o) ∷ ‵ (Rest q n ys b o′) ∷ []) ∵ fsplit ! $ move ! (1 ∷ 2 ∷ []) $
+      use2 W (‵ (Row q ys b o′)) (row-in n ys b o′) $ move ! (1 ∷ 0 ∷ []) $ fjoin ! $ done !
 
   module _ (n : ℕ) (ys : List LeapEntry) (b o : ℕ) where
-    pub prefix-out : {m : ℕ}
-        → ent 𝓤 (sem 𝓤 H A (Elems q m ys b o)) (sep 𝓤 (sem 𝓤 H A (Elems q (length (take n ys)) (take n ys) b o)) (sem 𝓤 H A (Rest q n ys b o)))
+    -- the first n, as a list that is lent
+    abbrev First : Fml
+    First = Elems q (length (take n ys)) (take n ys) b o
+
+    pub prefix-out : {m : ℕ} → ent 𝓤 ⟦ Elems q m ys b o ⟧ (sep 𝓤 ⟦ First ⟧ ⟦ Rest q n ys b o ⟧)
     prefix-out {m} =
-        qed W (‵ (Elems q m ys b o) ∷ []) ∵ fsplit ! $ drop ! $ use1 W (‵ (Row q (take n ys) b o) ⊛ ‵ (Rest q n ys b o)) (row-out n ys b o) $ split ! $
+        qed W (‵ (Elems q m ys b o) ∷ []) ∵ fsplit ! $ drop ! $
+        use1 W (‵ (Row q (take n ys) b o) ⊛ ‵ (Rest q n ys b o)) (row-out n ys b o) $ split ! $
         feqI ! ℕ (length (take n ys)) (length (take n ys)) refl $ fjoin ! $ done !
 
-    pub prefix-in : {m : ℕ} → length ys ≡ m
-        → ent 𝓤 (sep 𝓤 (sem 𝓤 H A (Elems q (length (take n ys)) (take n ys) b o)) (sem 𝓤 H A (Rest q n ys b o))) (sem 𝓤 H A (Elems q m ys b o))
+    pub prefix-in : {m : ℕ} → length ys ≡ m → ent 𝓤 (sep 𝓤 ⟦ First ⟧ ⟦ Rest q n ys b o ⟧) ⟦ Elems q m ys b o ⟧
     prefix-in {m} e =
-        qed W (‵ (Elems q (length (take n ys)) (take n ys) b o) ∷ ‵ (Rest q n ys b o) ∷ []) ∵ fsplit ! $ drop ! $ use2 W (‵ (Row q ys b o)) (row-in n ys b o) $
-        feqI ! ℕ (length ys) m e $ fjoin ! $ done !
+        qed W (‵ First ∷ ‵ (Rest q n ys b o) ∷ []) ∵ fsplit ! $ drop ! $
+        use2 W (‵ (Row q ys b o)) (row-in n ys b o) $ feqI ! ℕ (length ys) m e $ fjoin ! $ done !
