@@ -31,14 +31,15 @@ abbrev entry-at : List LeapEntry → ℕ → LeapEntry
 entry-at ys i = getD ys i noEntry
 
 -- its cell, what it owns, the others, and what shuts the borrow
-abbrev Out : {M : Type 1} {𝓤 : URA M} → Lft → Share → List LeapEntry → (i b o : ℕ) → Share → List (Item 𝓤) → List (Item 𝓤)
+abbrev Out : {M : Type 1} {𝓤 : URA M} → Lft → Share → List LeapEntry → (i b o : ℕ) → Share → List (Item 𝓤)
+    → List (Item 𝓤)
 Out κ q ys i b o q′ Γ =
     ‵ (cellAt q′ (E.the-row .mir) (ev (entry-at ys i) ∷ []) b (place (mem E.the-row .size) o i))
     ∷ ‵ (E.the-row .own (entry-at ys i) (ev (entry-at ys i) ∷ [])) ∷ ‵ (others (shares E.the-row) q′ ys i b o)
     ∷ ‵ (fobor κ q (arr-parts (shares E.the-row) (length ys) .part q′ ys b o)) ∷ Γ
 
-module _ {M : Type 1} {𝓤 : URA M} {H : Heap 𝓤} {A : Atoms 𝓤} {K : Type 0} {W : Given 𝓤 H A} {Γ : List (Item 𝓤)} {G : Goal 𝓤 H}
-    {κ : Lft} {q : Share} where
+module _ {M : Type 1} {𝓤 : URA M} {H : Heap 𝓤} {A : Atoms 𝓤} {K : Type 0} {W : Given 𝓤 H A} {Γ : List (Item 𝓤)}
+    {G : Goal 𝓤 H} {κ : Lft} {q : Share} where
   pub entry-opens : K → Soaks G → (ys : List LeapEntry) (i b o : ℕ) → i < length ys
       → ((q′ : Share) → Is E.the-row (entry-at ys i) (ev (entry-at ys i) ∷ [])
       → Seq K W (Out κ q ys i b o q′ (‵ (Entries κ ys b o) ∷ Γ)) G)

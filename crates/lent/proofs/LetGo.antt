@@ -61,8 +61,8 @@ module _ {M : Type 1} (𝓤 : URA M) (H : Heap 𝓤) (A : Atoms 𝓤) where
 -- at the result r, of which the contract says what it does
 pub ends : {M : Type 1} {𝓤 : URA M} {H : Heap 𝓤} {A : Atoms 𝓤} {K : Type 0} {W : Given 𝓤 H A} {Γ : List (Item 𝓤)} → K
     → (T : Ended) (c : Clauses 𝓤 T) (y : walkOf 𝓤 H A T (let-go T) c .Ghost)
-    (ν : Valued (typeAt (T .signature .result) (y .0 .0))) (r : Res (T .signature) (y .0 .0)) (ws : Lasts T (y .0 .0) (y .0 .3))
-    → Is (typeAt (T .signature .result) (y .0 .0)) r (ν .val r ∷ [])
+    (ν : Valued (typeAt (T .signature .result) (y .0 .0))) (r : Res (T .signature) (y .0 .0))
+    (ws : Lasts T (y .0 .0) (y .0 .3)) → Is (typeAt (T .signature .result) (y .0 .0)) r (ν .val r ∷ [])
     → ent 𝓤 (emp 𝓤) (c (y .0 .0) (y .0 .3) .ensures (y .1) r (atExit T (y .0 .0) (y .0 .3) ws))
     → Seq K W (raw (alive 𝓤 H A (T .signature) (y .0 .0) (y .0 .1)) ∷ Γ)
     (prop (walkOf 𝓤 H A T (let-go T) c .post y (ν .val r)))

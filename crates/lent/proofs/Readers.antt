@@ -88,7 +88,8 @@ module _ {R : RattleType} (ν : Valued R) {X : Type 0} (view : R .Denot → X) {
       -- [the list; the token; _2 at 2; _1 at 4; _0 at 6]
       asks a-pass (plain (λ _. u64) ∷ []) (yes, tt) _ κ q x (0, tt) (vint w64 0 ∷ [], tt) ! 𝓣 known-over
       (uint-makes 𝓤 H A W w64, tt) ((refl, lit< tt), tt)
-      (and-then ! (held ! 4 refl) (and-then ! (lit ! tt) (no-more !))) (λ p said gp. lands-at ! 2 refl (a-pass .typed W p gp) $
+      (and-then ! (held ! 4 refl) (and-then ! (lit ! tt) (no-more !))) (λ p said gp.
+      lands-at ! 2 refl (a-pass .typed W p gp) $
       calls-plain ! 𝓣 (reader R view f 𝓤) (reads R view f 𝓤) known-read ((tt, tt, tt, (p, tt), (pv p ∷ [], tt)), tt)
       (a-pass .makes W, tt) (gp, tt) (id⊢ 𝓤 _) (id⊢ 𝓤 _) (λ r. view r ≡ f p) (λ r ws. id⊢ 𝓤 _) ν (arg ! 3 refl)
       (λ r is gr. lands-at ! 6 refl (ν .typed W r gr) $

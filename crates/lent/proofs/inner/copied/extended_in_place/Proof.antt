@@ -33,7 +33,8 @@ use Rattle.lent.proofs.InALocal.{to-memory, from-memory}
 use Rattle.lent.proofs.try_extend as one
 use Rattle.lent.proofs.inner.copied.extended_in_place as this
 
-module _ {M : Type 1} (𝓤 : URA M) (H : Heap 𝓤) (A : Atoms 𝓤) (W : Given 𝓤 H A) (at-mem : Memory → SProp 𝓤) (run : Routine → Fun 𝓤) (𝓣 : Tables 𝓤 H)
+module _ {M : Type 1} (𝓤 : URA M) (H : Heap 𝓤) (A : Atoms 𝓤) (W : Given 𝓤 H A) (at-mem : Memory → SProp 𝓤)
+    (run : Routine → Fun 𝓤) (𝓣 : Tables 𝓤 H)
     (known : Triple 𝓤 (𝓣 .C one.Symbol.name) (tripleOf 𝓤 H A one.signature (one.spec 𝓤 H A at-mem run))) where
   abbrev c : Clauses 𝓤 this.ended
   c = this.clauses 𝓤 H A at-mem run
@@ -57,21 +58,23 @@ module _ {M : Type 1} (𝓤 : URA M) (H : Heap 𝓤) (A : Atoms 𝓤) (W : Given
         qed W (‵ ftrue ∷ ‵ (owns (T.the-row ∷ E.the-row ∷ []) (y .0 .3) (y .0 .4)) ∷ []) ∵ keep ! [] $
         enters ! (𝓣 .C) (𝓣 .Λ) this.Code.function _ _ (λ l₀ l₁ l₂ l₃ l₄ l₅ l₆. params1 ! $
         pass1 ! (init ! 10 refl (a-table .typed W h gh)) $ pass1 ! (init ! 8 refl (an-entry .typed W e ge)) $ pass0 ! $
-        sets ! 6 (of-opd ! (held ! 10 refl)) refl (a-table .typed W h gh) $ sets ! 2 (addr ! (from ! (stop !))) refl (tt, tt) $
+        sets ! 6 (of-opd ! (held ! 10 refl)) refl (a-table .typed W h gh) $
+        sets ! 2 (addr ! (from ! (stop !))) refl (tt, tt) $
         -- the table is lent for a lifetime that is made here
         move ! (6 ∷ []) $ use1 W (‵ (mem T.the-row .lies h l₃ 0)) (to-memory a-table W h l₃ 0 gh) $
         lft-new ! tt (λ α. move ! (1 ∷ []) $
         use1 W (later (some (λ (γ : GName). ‵ (MutRef (named 0) (α ∷ []) T.the-row .own (x l₃ γ) (vptr l₃ 0 ∷ []))
         ⊛ ‵ (flent (α ∷ []) (Lent (mem T.the-row) l₃ 0 γ))))) (lends-ref 𝓤 H A W T.the-row (named 0) (α ∷ []) h l₃ 0) $
-        await ! tt $ pick ! (λ γ. split ! $ move ! (0 ∷ 2 ∷ []) $
-        nothing ! $ owned ! E.the-row (Is E.the-row) (an-entry .makes W) e _ ge $ fjoin ! $ move ! (1 ∷ 0 ∷ []) $ fjoin ! $
-        nothing ! $ move ! (2 ∷ 0 ∷ []) $ join ! $ join ! $ nothing ! $ move ! (1 ∷ 0 ∷ []) $ join ! $
+        await ! tt $ pick ! (λ γ. split ! $ move ! (0 ∷ 2 ∷ []) $ nothing ! $
+        owned ! E.the-row (Is E.the-row) (an-entry .makes W) e _ ge $ fjoin ! $ move ! (1 ∷ 0 ∷ []) $ fjoin ! $ nothing ! $
+        move ! (2 ∷ 0 ∷ []) $ join ! $ join ! $ nothing ! $ move ! (1 ∷ 0 ∷ []) $ join ! $
         use1 W (Asked 𝓤 H A one.ended c₁ (handed α l₃ γ)) (id⊢ 𝓤 _) $
         -- [what `try_extend` asks; the lender's part; _6 at 2; _5 at 4; _4 at 6; that _3 dies at 8; _2 at 9; _1 at
         -- 11; _0 at 13]
         calls-told ! 𝓣 one.ended c₁ known (handed α l₃ γ) (λ r ws. (takenIn r, ws .0) ≡ extended h e)
         (λ r ws. id⊢ 𝓤 _) a-refusal (and-then ! (held ! 4 refl) (arg ! 9 refl)) (λ r ws is g.
-        use1 W (‵ (flft (α ∷ []) fullShare) ⊛ ‵ ftrue) (id⊢ 𝓤 _) $ split ! $ move ! (2 ∷ []) $ fsplit ! $ move ! (2 ∷ []) $
+        use1 W (‵ (flft (α ∷ []) fullShare) ⊛ ‵ ftrue) (id⊢ 𝓤 _) $ split ! $ move ! (2 ∷ []) $ fsplit ! $
+        move ! (2 ∷ []) $
         -- [the token; the last value; …; the lender's part at 4; _6 at 5; _5 at 7; _4 at 9; that _3 dies at 11; _2 at
         -- 12; _1 at 14; _0 at 16]
         lands-at ! 9 refl (a-refusal .typed W r g) $ lft-end ! tt $ move ! (0 ∷ 4 ∷ 1 ∷ []) $
@@ -84,7 +87,8 @@ module _ {M : Type 1} (𝓤 : URA M) (H : Heap 𝓤) (A : Atoms 𝓤) (W : Given
         sets ! 14 (agg ! (and-then ! (held ! 7 refl) (arg ! 3 refl))) refl (a-growth .typed W made gm) $
         returns ! (look ! 14 refl) $ frees-at ! 14 refl $ frees-at ! 12 refl $ frees-at ! 10 refl $ forget ! 0 refl $
         move ! (0 ∷ 9 ∷ []) $ free1 ! $ frees-at ! 6 refl $ frees-at ! 4 refl $ frees-at ! 2 refl $ free0 ! $
-        use0 W (raw (emp 𝓤)) (id⊢ 𝓤 _) $ ends ! this.ended c y a-growth made (tt, (tt, tt)) gm (factI 𝓤 _ (emp 𝓤) is))))))
+        use0 W (raw (emp 𝓤)) (id⊢ 𝓤 _) $
+        ends ! this.ended c y a-growth made (tt, (tt, tt)) gm (factI 𝓤 _ (emp 𝓤) is))))))
 
   walks : Walks 𝓤 H A this.ended (let-go this.ended) (WpFn 𝓤 H (𝓣 .C) (𝓣 .Λ) this.Code.function) c
   walks = walked 𝓤 H A this.ended (let-go this.ended) c (WpFn 𝓤 H (𝓣 .C) (𝓣 .Λ) this.Code.function)

@@ -19,13 +19,13 @@ use denote.Slice.{sliceTy}
 use borrow.Rule.Array.Share.{room-take}
 use denote.Struct.Laws as struct
 use denote.Triple.Walked.{Walks, needs, walkOf}
-use Rattle.lent.proofs.Walking.{_≡_, refl, List, [], _∷_, ℕ, length, URA, fullShare, named, w64, Val, vint}
-use Rattle.lent.proofs.Walking.{SProp, emp, id⊢, GName, ftrue, fat, flft, Memory, Routine, Heap, Tables, WpFn}
-use Rattle.lent.proofs.Walking.{Atoms, Fun, givenOf, tables, tablesOf, Given, ‵, raw, some, later, _⊛_, _$_, _∵_}
-use Rattle.lent.proofs.Walking.{ !, qed, move, keep, use0, use1, use2, split, join, pick, await, rewrite, look}
-use Rattle.lent.proofs.Walking.{init, stop, from, of-opd, addr, and-then, forget, returns, params1, pass1, pass0}
-use Rattle.lent.proofs.Walking.{free1, free0, agg, owns, Is, RefT, sliceVal, plain, nothing, Triple, Clauses}
-use Rattle.lent.proofs.Walking.{cited, walked, yes}
+use Rattle.lent.proofs.Walking.{_≡_, refl, List, [], _∷_, ℕ, length, URA, fullShare, Ty, named, w64, Val, vint}
+use Rattle.lent.proofs.Walking.{SProp, emp, id⊢, GName, Share, ftrue, fat, flft, Memory, Routine, Heap, Tables}
+use Rattle.lent.proofs.Walking.{WpFn, Atoms, Fun, givenOf, tables, tablesOf, Given, ‵, raw, some, later, _⊛_}
+use Rattle.lent.proofs.Walking.{_$_, _∵_, !, qed, move, keep, use0, use1, use2, split, join, pick, await}
+use Rattle.lent.proofs.Walking.{rewrite, look, init, stop, from, of-opd, addr, and-then, forget, returns}
+use Rattle.lent.proofs.Walking.{params1, pass1, pass0, free1, free0, agg, owns, Is, RefT, sliceVal, Room, plain}
+use Rattle.lent.proofs.Walking.{nothing, Triple, Clauses, cited, walked, yes}
 use Rattle.refusals.specs.Outcome.{answered}
 use Rattle.scales.specs.declared.tai.Tai.{Tai}
 use Rattle.scales.proofs.tai.Tai as Z
@@ -41,7 +41,8 @@ use Rattle.tables.proofs.OffsetAnswer as O
 use Rattle.lent.specs.Lists.{ofValidList}
 use Rattle.lent.specs.declared.inner.copied.Answers.{Answers}
 use Rattle.lent.proofs.inner.copied.Answers as S
-use Rattle.lent.proofs.Values.{a-reading, a-refusal, a-length, an-emptiness, an-update, an-offset, answers, an-array}
+use Rattle.lent.proofs.Values.{a-reading, an-array, answers}
+use Rattle.lent.proofs.Values.{a-refusal, a-length, an-emptiness, an-update, an-offset}
 use Rattle.lent.proofs.Locals.{enters, frees-at, held, arg, sets, lands-at}
 use Rattle.lent.proofs.LetGo.{let-go, Walk, ends, by-walk-let-go}
 use Rattle.lent.proofs.InALocal.{to-memory, from-memory}
@@ -56,21 +57,34 @@ use Rattle.lent.proofs.current_tai_minus_utc as current
 use Rattle.lent.proofs.tai_minus_utc_at as at
 use Rattle.lent.proofs.inner.copied.lent_to_all as this
 
+-- the MIR type of the list that is made
+abbrev madeᴹ : Ty
+madeᴹ = sliceTy (tyRef erased imm (pointee (E.the-row .written)))
+
+abbrev q : Share
+q = fullShare
+
 abbrev av : List LeapEntry → Val
 av = an-array 70 .val
 
-module _ {M : Type 1} (𝓤 : URA M) (H : Heap 𝓤) (A : Atoms 𝓤) (W : Given 𝓤 H A) (at-mem : Memory → SProp 𝓤) (run : Routine → Fun 𝓤) (𝓣 : Tables 𝓤 H)
+module _ {M : Type 1} (𝓤 : URA M) (H : Heap 𝓤) (A : Atoms 𝓤) (W : Given 𝓤 H A) (at-mem : Memory → SProp 𝓤)
+    (run : Routine → Fun 𝓤) (𝓣 : Tables 𝓤 H)
     (known-check : Triple 𝓤 (𝓣 .C check.Symbol.name) (Viewing K.the-row takenIn checking 𝓤 H A))
-    (known-len : Triple 𝓤 (𝓣 .C len.Symbol.name) (Viewing N.the-row lengthIn (λ ys. ofValidList ys (answered (length ys))) 𝓤 H A))
-    (known-empty : Triple 𝓤 (𝓣 .C empty.Symbol.name) (Viewing B.the-row emptyIn (λ ys. ofValidList ys (answered (eqb (length ys) 0))) 𝓤 H A))
-    (known-update : Triple 𝓤 (𝓣 .C update.Symbol.name) (Viewing U.the-row updateIn (λ ys. ofValidList ys (answered (lastUpdate ys))) 𝓤 H A))
-    (known-current : Triple 𝓤 (𝓣 .C current.Symbol.name) (Viewing O.the-row offsetIn (λ ys. ofValidList ys (answered (currentOffset ys))) 𝓤 H A))
-    (known-at : Triple 𝓤 (𝓣 .C at.Symbol.name) (Answering O.the-row (plain (λ _. Z.the-row) ∷ []) (yes, tt) 𝓤 H A (λ κs a r. offsetIn r ≡ ofValidList (a .0 .now) (answered (offsetAt (a .0 .now) (a .1 .0 .0)))))) where
+    (known-len : Triple 𝓤 (𝓣 .C len.Symbol.name)
+    (Viewing N.the-row lengthIn (λ ys. ofValidList ys (answered (length ys))) 𝓤 H A))
+    (known-empty : Triple 𝓤 (𝓣 .C empty.Symbol.name)
+    (Viewing B.the-row emptyIn (λ ys. ofValidList ys (answered (eqb (length ys) 0))) 𝓤 H A))
+    (known-update : Triple 𝓤 (𝓣 .C update.Symbol.name)
+    (Viewing U.the-row updateIn (λ ys. ofValidList ys (answered (lastUpdate ys))) 𝓤 H A))
+    (known-current : Triple 𝓤 (𝓣 .C current.Symbol.name)
+    (Viewing O.the-row offsetIn (λ ys. ofValidList ys (answered (currentOffset ys))) 𝓤 H A))
+    (known-at : Triple 𝓤 (𝓣 .C at.Symbol.name) (Answering O.the-row (plain (λ _. Z.the-row) ∷ []) (yes, tt) 𝓤 H A
+    (λ κs a r. offsetIn r ≡ ofValidList (a .0 .now) (answered (offsetAt (a .0 .now) (a .1 .0 .0)))))) where
   abbrev c : Clauses 𝓤 this.ended
   c = this.clauses 𝓤 H A at-mem run
 
-  module _ (h : List LeapEntry) (n : ℕ) (z : Tai) (gh : Is (Array E.the-row 70) h (av h ∷ [])) (gn : Is usize n (vint w64 n ∷ []))
-      (gz : Is Z.the-row z (a-reading .val z ∷ [])) (few : n ≤ 70) where
+  module _ (h : List LeapEntry) (n : ℕ) (z : Tai) (gh : Is (Array E.the-row 70) h (av h ∷ []))
+      (gn : Is usize n (vint w64 n ∷ [])) (gz : Is Z.the-row z (a-reading .val z ∷ [])) (few : n ≤ 70) where
     abbrev y : walkOf 𝓤 H A this.ended (let-go this.ended) c .Ghost
     y = ((tt, tt, tt, (h, (n, (z, tt))), (av h ∷ [], (vint w64 n ∷ [], (a-reading .val z ∷ [], tt)))), tt)
 
@@ -84,6 +98,9 @@ module _ {M : Type 1} (𝓤 : URA M) (H : Heap 𝓤) (A : Atoms 𝓤) (W : Given
     long : length h ≡ 70
     long = gh .1 .0 .1
 
+    room : Room E.the-row (length ys)
+    room = room-take E.the-row 70 n h long (lit< tt, lit< tt)
+
     counts : length ys ≡ n
     counts = length-take-le n h (subst (λ (m : ℕ). n ≤ m) (sym long) few)
 
@@ -93,39 +110,40 @@ module _ {M : Type 1} (𝓤 : URA M) (H : Heap 𝓤) (A : Atoms 𝓤) (W : Given
         enters ! (𝓣 .C) (𝓣 .Λ) this.Code.function _ _ (λ l₀ l₁ l₂ l₃ l₄ l₅ l₆ l₇ l₈ l₉ l₁₀ l₁₁ l₁₂. params1 ! $
         pass1 ! (init ! 22 refl (an-array 70 .typed W h gh)) $ pass1 ! (init ! 20 refl (tt, record { fits = gn .1 })) $
         pass1 ! (init ! 18 refl (a-reading .typed W z gz)) $ pass0 ! $
-        sets ! 16 (of-opd ! (held ! 22 refl)) refl (an-array 70 .typed W h gh) $ sets ! 12 (addr ! (from ! (stop !))) refl (tt, tt) $
+        sets ! 16 (of-opd ! (held ! 22 refl)) refl (an-array 70 .typed W h gh) $
+        sets ! 12 (addr ! (from ! (stop !))) refl (tt, tt) $
         sets ! 14 (agg ! (and-then ! (held ! 12 refl) (arg ! 20 refl))) refl (tt, (tt, (record { fits = gn .1 }, tt))) $
-        rewrite ! 14 (λ (m : ℕ). ‵ (fat fullShare (sliceTy (tyRef erased imm (pointee (E.the-row .written)))) l₅ 0 (sliceVal (l₄, 0) m)))
-        (sym counts) refl $
+        rewrite ! 14 (λ (m : ℕ). ‵ (fat fullShare madeᴹ l₅ 0 (sliceVal (l₄, 0) m))) (sym counts) refl $
         -- the first n entries are lent for a lifetime that is made here
-        move ! (16 ∷ []) $ use1 W (‵ (partAt (Array E.the-row 70) fullShare h l₄ 0)) (to-memory (an-array 70) W h l₄ 0 gh) $
-        use1 W (‵ (Elems fullShare 70 h l₄ 0)) (array-apart 𝓤 H A W E.the-row fullShare tt 70 h l₄ 0) $
-        use1 W (‵ (Elems fullShare (length ys) ys l₄ 0) ⊛ ‵ (Rest fullShare n h l₄ 0)) (prefix-out 𝓤 H A W fullShare n h l₄ 0) $
+        move ! (16 ∷ []) $ use1 W (‵ (partAt (Array E.the-row 70) q h l₄ 0)) (to-memory (an-array 70) W h l₄ 0 gh) $
+        use1 W (‵ (Elems q 70 h l₄ 0)) (array-apart 𝓤 H A W E.the-row q tt 70 h l₄ 0) $
+        use1 W (‵ (Elems q (length ys) ys l₄ 0) ⊛ ‵ (Rest q n h l₄ 0)) (prefix-out 𝓤 H A W q n h l₄ 0) $
         split ! $ lft-new ! tt (λ α. move ! (1 ∷ []) $
-        use1 W (later (some (λ (γ : GName). ‵ (List& (α ∷ []) (x l₄ γ)) ⊛ ‵ (flent (α ∷ []) (Elems fullShare (length ys) ys l₄ 0)))))
-        (lends-shr-slice 𝓤 H A W E.the-row (named 0) (α ∷ []) fullShare ys l₄ 0 (room-take E.the-row 70 n h long (lit< tt, lit< tt))) $
+        use1 W (later (some (λ (γ : GName). ‵ (List& (α ∷ []) (x l₄ γ)) ⊛ ‵ (flent (α ∷ []) (Elems q (length ys) ys l₄ 0)))))
+        (lends-shr-slice 𝓤 H A W E.the-row (named 0) (α ∷ []) q ys l₄ 0 room) $
         await ! tt $ pick ! (λ γ. split ! $ nothing ! $ move ! (3 ∷ 0 ∷ []) $ join ! $
-        use1 W (Token 𝓤 A (α ∷ []) fullShare) (id⊢ 𝓤 _) $ move ! (1 ∷ []) $
+        use1 W (Token 𝓤 A (α ∷ []) q) (id⊢ 𝓤 _) $ move ! (1 ∷ []) $
         -- [the list; the token; the lender's part; the rest; _12 at 4; _11 at 6; _10 at 8; _9 at 10; _8 at 12; _7 at
         -- 14; _6 at 16; _5 at 18; that _4 dies at 20; _3 at 21; …]
-        asks a-refusal [] tt _ (α ∷ []) fullShare (x l₄ γ) tt tt ! 𝓣 known-check tt tt (arg ! 18 refl) (λ r₁ p₁ g₁.
+        asks a-refusal [] tt _ (α ∷ []) q (x l₄ γ) tt tt ! 𝓣 known-check tt tt (arg ! 18 refl) (λ r₁ p₁ g₁.
         lands-at ! 14 refl (a-refusal .typed W r₁ g₁) $
-        asks a-length [] tt _ (α ∷ []) fullShare (x l₄ γ) tt tt ! 𝓣 known-len tt tt (arg ! 18 refl) (λ r₂ p₂ g₂.
+        asks a-length [] tt _ (α ∷ []) q (x l₄ γ) tt tt ! 𝓣 known-len tt tt (arg ! 18 refl) (λ r₂ p₂ g₂.
         lands-at ! 12 refl (a-length .typed W r₂ g₂) $
-        asks an-emptiness [] tt _ (α ∷ []) fullShare (x l₄ γ) tt tt ! 𝓣 known-empty tt tt (arg ! 18 refl) (λ r₃ p₃ g₃.
+        asks an-emptiness [] tt _ (α ∷ []) q (x l₄ γ) tt tt ! 𝓣 known-empty tt tt (arg ! 18 refl) (λ r₃ p₃ g₃.
         lands-at ! 10 refl (an-emptiness .typed W r₃ g₃) $
-        asks an-update [] tt _ (α ∷ []) fullShare (x l₄ γ) tt tt ! 𝓣 known-update tt tt (arg ! 18 refl) (λ r₄ p₄ g₄.
+        asks an-update [] tt _ (α ∷ []) q (x l₄ γ) tt tt ! 𝓣 known-update tt tt (arg ! 18 refl) (λ r₄ p₄ g₄.
         lands-at ! 8 refl (an-update .typed W r₄ g₄) $
-        asks an-offset [] tt _ (α ∷ []) fullShare (x l₄ γ) tt tt ! 𝓣 known-current tt tt (arg ! 18 refl) (λ r₅ p₅ g₅.
+        asks an-offset [] tt _ (α ∷ []) q (x l₄ γ) tt tt ! 𝓣 known-current tt tt (arg ! 18 refl) (λ r₅ p₅ g₅.
         lands-at ! 6 refl (an-offset .typed W r₅ g₅) $
-        asks an-offset (plain (λ _. Z.the-row) ∷ []) (yes, tt) _ (α ∷ []) fullShare (x l₄ γ) (z, tt) (a-reading .val z ∷ [], tt)
+        asks an-offset (plain (λ _. Z.the-row) ∷ []) (yes, tt) _ (α ∷ []) q (x l₄ γ) (z, tt) (a-reading .val z ∷ [], tt)
         ! 𝓣 known-at (a-reading .makes W, tt) (gz, tt) (and-then ! (held ! 18 refl) (arg ! 21 refl)) (λ r₆ p₆ g₆.
         lands-at ! 4 refl (an-offset .typed W r₆ g₆) $
-        move ! (1 ∷ []) $ use1 W (‵ (flft (α ∷ []) fullShare) ⊛ ‵ ftrue) (id⊢ 𝓤 _) $ split ! $
+        move ! (1 ∷ []) $ use1 W (‵ (flft (α ∷ []) q) ⊛ ‵ ftrue) (id⊢ 𝓤 _) $ split ! $
         -- [the token; …; the lender's part at 3; the rest; _12 at 5; …]
         lft-end ! tt $ move ! (0 ∷ 3 ∷ []) $ lent-back ! tt $ move ! (0 ∷ 3 ∷ []) $
-        use2 W (‵ (Elems fullShare 70 h l₄ 0)) (prefix-in 𝓤 H A W fullShare n h l₄ 0 long) $
-        use1 W (‵ (partAt (Array E.the-row 70) fullShare h l₄ 0)) (array-whole 𝓤 H A W E.the-row fullShare 70 h l₄ 0) $ from-memory (an-array 70) ! h l₄ 0 (λ _.
+        use2 W (‵ (Elems q 70 h l₄ 0)) (prefix-in 𝓤 H A W q n h l₄ 0 long) $
+        use1 W (‵ (partAt (Array E.the-row 70) q h l₄ 0)) (array-whole 𝓤 H A W E.the-row q 70 h l₄ 0) $
+        from-memory (an-array 70) ! h l₄ 0 (λ _.
         -- [_4 at 0; …; _12 at 3; _11 at 5; _10 at 7; _9 at 9; _8 at 11; _7 at 13; _6 at 15; _5 at 17; that _4 dies at
         -- 19; _3 at 20; _2 at 22; _1 at 24; _0 at 26]
         let r : Answers = record { check = r₁; length = r₂; empty = r₃; update = r₄; current = r₅; «in_force» = r₆ } in
@@ -133,8 +151,8 @@ module _ {M : Type 1} (𝓤 : URA M) (H : Heap 𝓤) (A : Atoms 𝓤) (W : Given
         sets ! 26 (agg ! (and-then ! (held ! 13 refl) (and-then ! (held ! 11 refl) (and-then ! (held ! 9 refl)
         (and-then ! (held ! 7 refl) (and-then ! (held ! 5 refl) (arg ! 3 refl))))))) refl (answers .typed W r g) $
         returns ! (look ! 26 refl) $ frees-at ! 26 refl $ frees-at ! 24 refl $ frees-at ! 22 refl $ frees-at ! 20 refl $
-        forget ! 0 refl $ move ! (0 ∷ 19 ∷ []) $ free1 ! $ frees-at ! 16 refl $ frees-at ! 14 refl $ frees-at ! 12 refl $
-        frees-at ! 10 refl $ frees-at ! 8 refl $ frees-at ! 6 refl $ frees-at ! 4 refl $ frees-at ! 2 refl $ free0 ! $
+        forget ! 0 refl $ move ! (0 ∷ 19 ∷ []) $ free1 ! $ frees-at ! 16 refl $ frees-at ! 14 refl $
+        frees-at ! 12 refl $ frees-at ! 10 refl $ frees-at ! 8 refl $ frees-at ! 6 refl $ frees-at ! 4 refl $ frees-at ! 2 refl $ free0 ! $
         use0 W (raw (emp 𝓤)) (id⊢ 𝓤 _) $ ends ! this.ended c y answers r (tt, (tt, (tt, tt))) g (factI 𝓤 _ (emp 𝓤) (λ i.
         record { check = p₁ i; size = p₂ i; empty = p₃ i; update = p₄ i; current = p₅ i; inForce = p₆ i }))))))))))))
 
