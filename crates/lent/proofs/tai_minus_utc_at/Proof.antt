@@ -31,13 +31,15 @@ use Rattle.lent.proofs.inner.pass_over as over
 use Rattle.lent.proofs.inner.in_force as read
 use Rattle.lent.proofs.tai_minus_utc_at as this
 
-module _ {M : Type 1} (𝓤 : URA M) (H : Heap 𝓤) (A : Atoms 𝓤) (W : Given 𝓤 H A) (at-mem : Memory → SProp 𝓤) (run : Routine → Fun 𝓤) (𝓣 : Tables 𝓤 H)
+module _ {M : Type 1} (𝓤 : URA M) (H : Heap 𝓤) (A : Atoms 𝓤) (W : Given 𝓤 H A) (at-mem : Memory → SProp 𝓤)
+    (run : Routine → Fun 𝓤) (𝓣 : Tables 𝓤 H)
     (known-over : Triple 𝓤 (𝓣 .C over.Symbol.name) (Passing 𝓤 H A))
     (known-read : Triple 𝓤 (𝓣 .C read.Symbol.name) (tripleOf 𝓤 H A read.signature (read.spec 𝓤 H A at-mem run))) where
   abbrev c : Clauses 𝓤 this.ended
   c = this.clauses 𝓤 H A at-mem run
 
-  module _ (κ : Lft) (q : Share) (x : RefT (List LeapEntry)) (z : Tai) (gn : Room E.the-row (length (x .now))) (gz : Is Z.the-row z (a-reading .val z ∷ [])) where
+  module _ (κ : Lft) (q : Share) (x : RefT (List LeapEntry)) (z : Tai) (gn : Room E.the-row (length (x .now)))
+      (gz : Is Z.the-row z (a-reading .val z ∷ [])) where
     abbrev y : walkOf 𝓤 H A this.ended (let-go this.ended) c .Ghost
     y = (((κ, tt), (q, tt), tt, (x, (z, tt)), (slice-vals x, (a-reading .val z ∷ [], tt))), tt)
 
@@ -52,21 +54,23 @@ module _ {M : Type 1} (𝓤 : URA M) (H : Heap 𝓤) (A : Atoms 𝓤) (W : Given
         asks a-pass (plain (λ _. u64) ∷ []) (yes, tt) _ κ q x (z .0, tt) (vint w64 (z .0) ∷ [], tt)
         ! 𝓣 known-over (uint-makes 𝓤 H A W w64, tt)
         (struct.owed Z.the-type Z.Laws.the-laws z _ gz .0, tt)
-        (and-then ! (held ! 6 refl)
-        (and-then ! (load ! (from ! (fld ! refl (stop !))) (look-in ! 4 (sub ! 0 refl (whole !)))) (no-more !))) (λ p said g.
+        (and-then ! (held ! 6 refl) (and-then ! (load ! (from ! (fld ! refl (stop !)))
+        (look-in ! 4 (sub ! 0 refl (whole !)))) (no-more !))) (λ p said g.
         lands-at ! 2 refl (a-pass .typed W p g) $
         calls-plain ! 𝓣 read.ended (read.clauses 𝓤 H A at-mem run) known-read
         ((tt, tt, tt, (p, tt), (pv p ∷ [], tt)), tt) (a-pass .makes W, tt) (g, tt) (id⊢ 𝓤 _) (id⊢ 𝓤 _)
-        (λ r. offsetIn r ≡ ofTaken (p .answer) (answered (p .found .offset))) (λ r ws. id⊢ 𝓤 _) an-offset (arg ! 3 refl) (λ r is gr.
-        lands-at ! 8 refl (an-offset .typed W r gr) $ returns ! (look ! 8 refl) $
+        (λ r. offsetIn r ≡ ofTaken (p .answer) (answered (p .found .offset))) (λ r ws. id⊢ 𝓤 _) an-offset
+        (arg ! 3 refl) (λ r is gr. lands-at ! 8 refl (an-offset .typed W r gr) $ returns ! (look ! 8 refl) $
         frees-at ! 8 refl $ frees-at ! 6 refl $ frees-at ! 4 refl $ frees-at ! 2 refl $ free0 ! $ move ! (1 ∷ []) $
-        ends ! this.ended c y an-offset r (tt, (tt, tt)) gr (factI 𝓤 _ (emp 𝓤) (is ∙ in-force-read (z .0) (x .now) p said)))))
+        ends ! this.ended c y an-offset r (tt, (tt, tt)) gr
+        (factI 𝓤 _ (emp 𝓤) (is ∙ in-force-read (z .0) (x .now) p said)))))
 
   walks : Walks 𝓤 H A this.ended (let-go this.ended) (WpFn 𝓤 H (𝓣 .C) (𝓣 .Λ) this.Code.function) c
   walks = walked 𝓤 H A this.ended (let-go this.ended) c (WpFn 𝓤 H (𝓣 .C) (𝓣 .Λ) this.Code.function)
       (λ κs. (slice-vals, ((λ z. a-reading .val z ∷ []), tt)))
       (λ κs. (shr-slice-tells (named 0) (κs .0) E.the-row, (a-reading .tells, tt)))
-      (λ κs qs bounds a _ are. via 𝓤 _ (fst∗ 𝓤 _ (emp 𝓤)) (walk (κs .0) (qs .0) (a .0) (a .1 .0) (are .0 .0 .1) (are .1 .0)))
+      (λ κs qs bounds a _ are. via 𝓤 _ (fst∗ 𝓤 _ (emp 𝓤))
+      (walk (κs .0) (qs .0) (a .0) (a .1 .0) (are .0 .0 .1) (are .1 .0)))
 
 pub tai-minus-utc-at-spec : {M : Type 1} → this.Statement.statement M
 unfolding this.Code.routine tablesOf

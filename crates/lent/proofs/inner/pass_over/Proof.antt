@@ -6,6 +6,7 @@ use mathlib.Core.WellFounded.{InvImage·wf}
 use lib.Dec.{lit<}
 use lib.WfN.{Nat·lt-wfRel}
 use package.mir.Syntax.{tyInt, tyBool, tyPtr}
+use base.Logic.{via, fst∗}
 use base.Fml.{froom, fdies}
 use prog.Wp.{Out, Wp, afterSeq, afterBlock, afterTurn, atReturn}
 use contract.Monad.{factI}
@@ -17,10 +18,10 @@ use denote.Index.{place-is}
 use denote.Triple.Walked.{Walks, walkOf}
 use Rattle.lent.proofs.Walking.{_≡_, refl, List, [], _∷_, ℕ, length, URA, fullShare, named, w64, Val, vint, vptr}
 use Rattle.lent.proofs.Walking.{SProp, emp, id⊢, Lft, GName, Share, ftrue, fat, flft, Memory, Routine, Heap, Env}
-use Rattle.lent.proofs.Walking.{Tables, WpFn, Atoms, Fun, givenOf, tables, tablesOf, Item, Given, runs, ‵, raw}
-use Rattle.lent.proofs.Walking.{_⊛_, _$_, _∵_, !, qed, move, keep, drop, use1, split, join, rewrite, fsplit}
-use Rattle.lent.proofs.Walking.{look, init, stop, fld, from, load, lit, of-opd, assigns, land, and-then, forget}
-use Rattle.lent.proofs.Walking.{returns, params1, pass1, pass0, free1, free0, whole, sub, look-in, owns}
+use Rattle.lent.proofs.Walking.{Tables, WpFn, Atoms, Fun, givenOf, tables, tablesOf, Item, Given, runs, ‵, _⊛_}
+use Rattle.lent.proofs.Walking.{_$_, _∵_, !, qed, move, drop, use1, split, join, rewrite, fsplit, look, init}
+use Rattle.lent.proofs.Walking.{stop, fld, from, load, lit, of-opd, assigns, land, and-then, forget, returns}
+use Rattle.lent.proofs.Walking.{params1, pass1, pass0, free1, free0, whole, sub, look-in, owns, Is, RefT}
 use Rattle.lent.proofs.Walking.{sliceVal, ShrSlice, Room, slice-vals, shr-slice-tells, nothing, Triple, Clauses}
 use Rattle.lent.proofs.Walking.{tripleOf, cited, walked}
 use Rattle.tables.specs.declared.LeapEntry.{LeapEntry}
@@ -29,7 +30,7 @@ use Rattle.lent.specs.Pass.{seenIn, begun, after}
 use Rattle.lent.proofs.inner.Pass as P
 use Rattle.lent.proofs.Values.{an-entry, a-pass, ev, pv, listᴹ}
 use Rattle.lent.proofs.Locals.{enters, frees-at, held, arg, sets, lands-at}
-use Rattle.lent.proofs.LetGo.{let-go, ends, by-walk-let-go}
+use Rattle.lent.proofs.LetGo.{let-go, Walk, ends, by-walk-let-go}
 use Rattle.lent.proofs.CallInWalk.{calls-plain}
 use Rattle.lent.proofs.CallOnLentList.{Token}
 use Rattle.lent.proofs.LentEntries.{Entries, entry-opens, entry-shuts, tests}
@@ -37,21 +38,24 @@ use Rattle.lent.proofs.inner.begin as begin
 use Rattle.lent.proofs.inner.pass_on as on
 use Rattle.lent.proofs.inner.pass_over as this
 use Rattle.lent.proofs.inner.pass_over.Code.Mir as mir
-use Rattle.lent.proofs.inner.pass_over.Proof.Turns.{State, starts, at-i, left, below, scaled, next-fits, count-fits, next, less, all-seen}
+use Rattle.lent.proofs.inner.pass_over.Proof.Turns.{State, starts, at-i, left, below, scaled, next-fits}
+use Rattle.lent.proofs.inner.pass_over.Proof.Turns.{count-fits, next, less, all-seen}
 mod Turns
 
-module _ {M : Type 1} (𝓤 : URA M) (H : Heap 𝓤) (A : Atoms 𝓤) (W : Given 𝓤 H A) (at-mem : Memory → SProp 𝓤) (run : Routine → Fun 𝓤) (𝓣 : Tables 𝓤 H)
+module _ {M : Type 1} (𝓤 : URA M) (H : Heap 𝓤) (A : Atoms 𝓤) (W : Given 𝓤 H A) (at-mem : Memory → SProp 𝓤)
+    (run : Routine → Fun 𝓤) (𝓣 : Tables 𝓤 H)
     (known-begin : Triple 𝓤 (𝓣 .C begin.Symbol.name) (tripleOf 𝓤 H A begin.signature (begin.spec 𝓤 H A at-mem run)))
     (known-on : Triple 𝓤 (𝓣 .C on.Symbol.name) (tripleOf 𝓤 H A on.signature (on.spec 𝓤 H A at-mem run))) where
   abbrev c : Clauses 𝓤 this.ended
   c = this.clauses 𝓤 H A at-mem run
 
-  module _ (κ : Lft) (q : Share) (b o : ℕ) (γ : GName) (ys : List LeapEntry) (t : ℕ) (gn : Room E.the-row (length ys)) where
-    abbrev lv : Val
-    lv = sliceVal (b, o) (length ys)
+  module _ (κ : Lft) (q : Share) (b o : ℕ) (γ : GName) (ys : List LeapEntry) (t : ℕ) (gn : Room E.the-row (length ys))
+      (gt : Is u64 t (vint w64 t ∷ [])) where
+    abbrev x : RefT (List LeapEntry)
+    x = record { ptr = (b, o); name = γ; now = ys }
 
     abbrev y : walkOf 𝓤 H A this.ended (let-go this.ended) c .Ghost
-    y = (((κ, tt), (q, tt), tt, (record { ptr = (b, o); name = γ; now = ys }, (t, tt)), (lv ∷ [], (vint w64 t ∷ [], tt))), tt)
+    y = (((κ, tt), (q, tt), tt, (x, (t, tt)), (slice-vals x, (vint w64 t ∷ [], tt))), tt)
 
     abbrev Q : Val → SProp 𝓤
     Q = walkOf 𝓤 H A this.ended (let-go this.ended) c .post y
@@ -74,7 +78,7 @@ module _ {M : Type 1} (𝓤 : URA M) (H : Heap 𝓤) (A : Atoms 𝓤) (W : Given
           ∷ ‵ (fat fullShare (tyInt w64) l₄ 0 (vint w64 (s .i))) ∷ ‵ (fdies (tyInt w64) l₄)
           ∷ ‵ (fat fullShare P.Laws.mir l₃ 0 (pv (s .pass))) ∷ ‵ (fdies P.Laws.mir l₃)
           ∷ ‵ (fat fullShare (tyInt w64) l₂ 0 (vint w64 t)) ∷ ‵ (fdies (tyInt w64) l₂)
-          ∷ ‵ (fat fullShare listᴹ l₁ 0 lv) ∷ ‵ (fdies listᴹ l₁)
+          ∷ ‵ (fat fullShare listᴹ l₁ 0 (sliceVal (b, o) (length ys))) ∷ ‵ (fdies listᴹ l₁)
           ∷ ‵ (froom P.Laws.mir l₀ 0) ∷ ‵ (fdies P.Laws.mir l₀) ∷ []
 
       -- when the loop is left, the rest of the body runs
@@ -97,8 +101,8 @@ module _ {M : Type 1} (𝓤 : URA M) (H : Heap 𝓤) (A : Atoms 𝓤) (W : Given
           let fits-next = next-fits t ys s l (gn .0) in
           assigns ! (bin ! (held ! 10 refl) (lit ! tt) (record { fits = fits })) (from ! (stop !))
           (store ! 8 refl (tt, record { fits = fits })) $
-          sets ! 4 (bin ! (load ! (from ! (fld ! refl (stop !))) (look-in ! 16 (sub ! 0 refl (whole !)))) (held ! 8 refl) tt) refl
-          (tt, tt) $
+          sets ! 4 (bin ! (load ! (from ! (fld ! refl (stop !))) (look-in ! 16 (sub ! 0 refl (whole !))))
+          (held ! 8 refl) tt) refl (tt, tt) $
           rewrite ! 4 (λ (p : ℕ). ‵ (fat fullShare tyPtr l₇ 0 (vptr b p))) (sym (place-is 16 o (s .i))) refl $
           move ! (1 ∷ 0 ∷ []) $ entry-opens ! tt ys (s .i) b o (below t ys s l) (λ q′ ge.
           -- [the entry's cell; what it owns; the others; what shuts; the entries; _8 at 5; _7 at 7; …]
@@ -118,8 +122,8 @@ module _ {M : Type 1} (𝓤 : URA M) (H : Heap 𝓤) (A : Atoms 𝓤) (W : Given
           -- ---- it is not: the pass is returned
           (λ l. exec ! (𝓣 .C) (𝓣 .Λ) En mir.t-4 (atRet En Q) $
           sets ! 18 (of-opd ! (held ! 12 refl)) refl (a-pass .typed W (s .pass) (s .is-pass)) $
-          returns ! (look ! 18 refl) $ frees-at ! 18 refl $ frees-at ! 16 refl $ frees-at ! 14 refl $ frees-at ! 12 refl $
-          frees-at ! 10 refl $ frees-at ! 8 refl $ frees-at ! 6 refl $
+          returns ! (look ! 18 refl) $ frees-at ! 18 refl $ frees-at ! 16 refl $ frees-at ! 14 refl $
+          frees-at ! 12 refl $ frees-at ! 10 refl $ frees-at ! 8 refl $ frees-at ! 6 refl $
           move ! (4 ∷ 5 ∷ []) $ free1 ! $ move ! (2 ∷ 3 ∷ []) $ free1 ! $ free0 ! $
           nothing ! $ move ! (1 ∷ 0 ∷ []) $ join ! $ use1 W (Token 𝓤 A κ q) (id⊢ 𝓤 _) $
           ends ! this.ended c y a-pass (s .pass) (tt, (tt, tt)) (s .is-pass) (factI 𝓤 _ (emp 𝓤) (all-seen t ys s l)))
@@ -127,32 +131,34 @@ module _ {M : Type 1} (𝓤 : URA M) (H : Heap 𝓤) (A : Atoms 𝓤) (W : Given
       looping : (s : State t ys) → Sq W (I s) (runs (𝓣 .C) (𝓣 .Λ) En mir.t-3 (atRet En Q))
       looping s = first ! $ blocks ! $ loops ! 𝓣 ≺ (InvImage·wf (left t ys) (Nat·lt-wfRel .wf)) I turn s
 
+    walk : Walk 𝓤 H A this.ended (let-go this.ended) c y (WpFn 𝓤 H (𝓣 .C) (𝓣 .Λ) this.Code.function)
+    walk =
+        qed W (Token 𝓤 A κ q ∷ ‵ (owns (ShrSlice (named 0) κ E.the-row ∷ u64 ∷ []) (y .0 .3) (y .0 .4)) ∷ []) ∵
+        enters ! (𝓣 .C) (𝓣 .Λ) this.Code.function _ _ (λ l₀ l₁ l₂ l₃ l₄ l₅ l₆ l₇ l₈. params1 ! $
+        pass1 ! (init ! 14 refl (tt, (tt, (record { fits = gn .0 }, tt)))) $
+        pass1 ! (init ! 12 refl (tt, record { fits = gt .1 })) $ pass0 ! $
+        calls-plain ! 𝓣 begin.ended (begin.clauses 𝓤 H A at-mem run) known-begin
+        ((tt, tt, tt, (t, tt), (vint w64 t ∷ [], tt)), tt) (uint-makes 𝓤 H A W w64, tt) (gt, tt) (id⊢ 𝓤 _) (id⊢ 𝓤 _)
+        (λ r. seenIn r ≡ begun t) (λ r ws. id⊢ 𝓤 _) a-pass (arg ! 13 refl) (λ r is g.
+        lands-at ! 10 refl (a-pass .typed W r g) $ sets ! 8 (of-opd ! (lit ! tt)) refl (tt, record { fits = lit< tt }) $
+        -- of what the lent list owns the borrow of the entries is kept
+        move ! (19 ∷ []) $ fsplit ! $ move ! (1 ∷ []) $ drop ! $ fsplit ! $ drop ! $ fsplit ! $ drop ! $
+        move ! (19 ∷ []) $ use1 W (‵ (flft κ q) ⊛ ‵ ftrue) (id⊢ 𝓤 _) $ split ! $ move ! (0 ∷ 2 ∷ []) $
+        move ! (2 ∷ []) $ drop ! $ looping l₀ l₁ l₂ l₃ l₄ l₅ l₆ l₇ l₈ (starts t ys r g is)))
+
   walks : Walks 𝓤 H A this.ended (let-go this.ended) (WpFn 𝓤 H (𝓣 .C) (𝓣 .Λ) this.Code.function) c
   walks = walked 𝓤 H A this.ended (let-go this.ended) c (WpFn 𝓤 H (𝓣 .C) (𝓣 .Λ) this.Code.function)
-      (λ κs. (slice-vals, (uint-vals w64, tt))) (λ κs. (shr-slice-tells (named 0) (κs .0) E.the-row, (uint-tells w64, tt))) (λ κs qs bounds a _ are.
+      (λ κs. (slice-vals, (uint-vals w64, tt)))
+      (λ κs. (shr-slice-tells (named 0) (κs .0) E.the-row, (uint-tells w64, tt))) (λ κs qs bounds a _ are.
       let x = a .0 in
-      let t = a .1 .0 in
-      let ys = x .now in
-      let gn = are .0 .0 .1 in
-      qed W ((Token 𝓤 A (κs .0) (qs .0) ⊛ ‵ (owns (ShrSlice (named 0) (κs .0) E.the-row ∷ u64 ∷ []) a (slice-vals x, (vint w64 t ∷ [], tt)))) ∷ raw (emp 𝓤) ∷ []) ∵ split ! $ keep ! (0 ∷ 1 ∷ []) $
-      enters ! (𝓣 .C) (𝓣 .Λ) this.Code.function (sliceVal (x .ptr) (length ys) ∷ vint w64 t ∷ []) _ (λ l₀ l₁ l₂ l₃ l₄ l₅ l₆ l₇ l₈. params1 ! $
-      pass1 ! (init ! 14 refl (tt, (tt, (record { fits = gn .0 }, tt)))) $
-      pass1 ! (init ! 12 refl (tt, record { fits = are .1 .0 .1 })) $ pass0 ! $
-      calls-plain ! 𝓣 begin.ended (begin.clauses 𝓤 H A at-mem run) known-begin
-      ((tt, tt, tt, (t, tt), (vint w64 t ∷ [], tt)), tt) (uint-makes 𝓤 H A W w64, tt) (are .1 .0, tt) (id⊢ 𝓤 _) (id⊢ 𝓤 _)
-      (λ r. seenIn r ≡ begun t) (λ r ws. id⊢ 𝓤 _) a-pass (arg ! 13 refl) (λ r is g.
-      lands-at ! 10 refl (a-pass .typed W r g) $ sets ! 8 (of-opd ! (lit ! tt)) refl (tt, record { fits = lit< tt }) $
-      -- of what the lent list owns the borrow of the entries is kept
-      move ! (19 ∷ []) $ fsplit ! $ move ! (1 ∷ []) $ drop ! $ fsplit ! $ drop ! $ fsplit ! $ drop ! $ move ! (19 ∷ []) $
-      use1 W (‵ (flft (κs .0) (qs .0)) ⊛ ‵ ftrue) (id⊢ 𝓤 _) $ split ! $ move ! (0 ∷ 2 ∷ []) $ move ! (2 ∷ []) $ drop ! $
-      looping (κs .0) (qs .0) (x .ptr .0) (x .ptr .1) (x .name) ys t gn l₀ l₁ l₂ l₃ l₄ l₅ l₆ l₇ l₈ (starts t ys r g is))))
+      via 𝓤 _ (fst∗ 𝓤 _ (emp 𝓤)) (walk (κs .0) (qs .0) (x .ptr .0) (x .ptr .1) (x .name) (x .now) (a .1 .0) (are .0 .0 .1)
+      (are .1 .0)))
 
 pub pass-over-spec : {M : Type 1} → this.Statement.statement M
 unfolding this.Code.routine tablesOf
 pass-over-spec 𝓤 H 𝓜 𝓖 𝓡 =
-    let 𝓣 = tablesOf 𝓤 H 𝓜 (tables 𝓤 H 𝓜 𝓡 this.Code.env) in
-    by-walk-let-go 𝓤 H 𝓜 𝓖 𝓡 this.Code.env this.ended (this.clauses 𝓤 H (𝓖 .A) (𝓜 .mem) (𝓡 .run)) this.Key.name this.Code.function
-    (this.Code.unfolded 𝓤 H 𝓜 𝓡) ((λ κs x w. refl), ((λ κs x w. refl), tt))
-    (walks 𝓤 H (𝓖 .A) (givenOf 𝓤 H 𝓜 𝓖) (𝓜 .mem) (𝓡 .run) 𝓣
+    by-walk-let-go 𝓤 H 𝓜 𝓖 𝓡 this.Code.env this.ended (this.clauses 𝓤 H (𝓖 .A) (𝓜 .mem) (𝓡 .run)) this.Key.name
+    this.Code.function (this.Code.unfolded 𝓤 H 𝓜 𝓡) ((λ κs x w. refl), ((λ κs x w. refl), tt))
+    (walks 𝓤 H (𝓖 .A) (givenOf 𝓤 H 𝓜 𝓖) (𝓜 .mem) (𝓡 .run) (tablesOf 𝓤 H 𝓜 (tables 𝓤 H 𝓜 𝓡 this.Code.env))
     (cited 𝓤 H _ 𝓜 𝓡 this.Code.env begin.Symbol.name _ this.Code.calls-lent·inner·begin (begin.Met.met 𝓤 H 𝓜 𝓖 𝓡))
     (cited 𝓤 H _ 𝓜 𝓡 this.Code.env on.Symbol.name _ this.Code.calls-lent·inner·pass-on (on.Met.met 𝓤 H 𝓜 𝓖 𝓡)))
