@@ -1,6 +1,6 @@
 -- A call within a walk: what the callee's contract says is told, and its result is in hand.
 -- Assumes `Given`.
-use mathlib.Core.Path.{sym, ap, subst}
+use mathlib.Core.Path.{ap}
 use denote.Laws.{Are, Ises, Makess, owns-make}
 use denote.Signature.{typeAt, typesAt}
 use denote.Steps.{only, heard}
@@ -8,11 +8,11 @@ use denote.Triple.Bound.{Bound, passed}
 use denote.Triple.Call.{calls-at}
 use denote.Triple.Clauses.{Lasts, atExit, lasts}
 use denote.Triple.Entry.{alive}
-use Rattle.lent.proofs.Walking.{List, [], _∷_, URA, Name, Place, Operand, Body, seq, call, Val, SProp, ent, emp}
-use Rattle.lent.proofs.Walking.{id⊢, Heap, Env, Loops, Tables, Atoms, fact, Item, Post, Given, Seq, runs, lands}
-use Rattle.lent.proofs.Walking.{‵, raw, some, later, _⊛_, _$_, move, drop, use0, use1, split, join, pick, await}
-use Rattle.lent.proofs.Walking.{Opds, fmOf, RattleType, owns, Is, shows, peeks, Triple, Ended, Clauses, closing}
-use Rattle.lent.proofs.Walking.{tripleOf}
+use Rattle.lent.proofs.Walking.{sym, subst, List, [], _∷_, URA, Name, Place, Operand, Body, seq, call, Val}
+use Rattle.lent.proofs.Walking.{SProp, ent, emp, id⊢, Heap, Env, Loops, Tables, Atoms, fact, Item, Post, Given}
+use Rattle.lent.proofs.Walking.{Seq, runs, lands, ‵, raw, some, later, _⊛_, _$_, move, drop, use0, use1, split}
+use Rattle.lent.proofs.Walking.{join, pick, await, Opds, fmOf, RattleType, owns, Is, shows, peeks, Triple, Ended}
+use Rattle.lent.proofs.Walking.{Clauses, closing, tripleOf}
 use Rattle.lent.proofs.Values.{Valued}
 
 -- the callee has the contract c; y is what is chosen for it: lifetimes, shares, arguments and their machine values

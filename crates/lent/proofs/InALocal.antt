@@ -1,12 +1,11 @@
 -- A plain value in a local's cell is one in memory, which can be lent, and back.
-use mathlib.Core.Path.{sym, subst}
 use base.Fml.{fsep}
 use types.Kit.{fpick, fpack}
 use denote.Memory.{cellAt, partAt, partOf}
 use denote.Struct.Steps.{spelt}
-use Rattle.lent.proofs.Walking.{List, [], _∷_, ℕ, URA, fullShare, Ty, Val, ent, Fml, fat, Heap, Atoms, sem, Goal}
-use Rattle.lent.proofs.Walking.{Item, Given, Seq, ‵, _$_, _∵_, !, qed, move, drop, use1, done, fsplit, fjoin}
-use Rattle.lent.proofs.Walking.{RattleType, Is, shows, owned, peeks}
+use Rattle.lent.proofs.Walking.{sym, subst, List, [], _∷_, ℕ, URA, fullShare, Ty, Val, ent, Fml, fat, Heap}
+use Rattle.lent.proofs.Walking.{Atoms, sem, Goal, Item, Given, Seq, ‵, _$_, _∵_, !, qed, move, drop, use1, done}
+use Rattle.lent.proofs.Walking.{fsplit, fjoin, RattleType, Is, shows, owned, peeks}
 use Rattle.lent.proofs.Values.{Valued}
 
 module _ {R : RattleType} (ν : Valued R) {M : Type 1} {𝓤 : URA M} {H : Heap 𝓤} {A : Atoms 𝓤} where

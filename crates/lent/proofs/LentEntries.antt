@@ -11,12 +11,12 @@ use prog.Wp.{exits}
 use types.Kit.{Soaks, prop, post}
 use types.Run.{Opd, first, branches, skips, jumps}
 use types.Share.{arr-parts}
-use denote.Memory.{cellAt, mem, shares}
+use denote.Memory.{cellAt, shares}
 use denote.Index.{place, others, elem-out, elem-back, looks-slice, shuts-slice}
 use denote.Struct.Laws as struct
 use Rattle.lent.proofs.Walking.{List, [], _∷_, ℕ, length, URA, Operand, Body, seq, Val, Lft, Share, Fml, flft}
 use Rattle.lent.proofs.Walking.{Heap, Env, Calls, Loops, Atoms, Goal, Item, Post, Given, Seq, Step, step, runs}
-use Rattle.lent.proofs.Walking.{‵, _$_, Is, shows}
+use Rattle.lent.proofs.Walking.{‵, _$_, Is, shows, mem}
 use Rattle.tables.specs.declared.LeapEntry.{LeapEntry}
 use Rattle.tables.proofs.LeapEntry as E
 use Rattle.lent.proofs.Values.{an-entry, ev}

@@ -1,6 +1,6 @@
 -- A function that lets go of its parameters: a walk of it ends with the tokens and the result, and gives the theorem
 -- about its routine.
-use base.Logic.{via, emp∗}
+use base.Logic.{emp∗}
 use prog.Model.{Model}
 use prog.Routine.{Env as Routines}
 use prog.Wp.{Closed}
@@ -15,12 +15,12 @@ use denote.Triple.End.{Kepts, Fins}
 use denote.Triple.Entry.{Res, alive}
 use denote.Triple.Table.{entered}
 use denote.Triple.Walked.{Stays, fitsOf, hasOf, stay-dropped, goes-dropped, Silent, AllGo}
-use denote.Triple.Walked.{Walks, walkOf, ends-at, walk-meets}
+use denote.Triple.Walked.{ends-at, walk-meets}
 use types.Kit.{prop}
-use Rattle.lent.proofs.Walking.{List, [], _∷_, ℕ, URA, Name, Fn, ent, emp, id⊢, Heap, WpFn, Atoms, sem, Fun}
+use Rattle.lent.proofs.Walking.{List, [], _∷_, ℕ, URA, Name, Fn, ent, emp, id⊢, via, Heap, WpFn, Atoms, sem, Fun}
 use Rattle.lent.proofs.Walking.{givenOf, tables, tablesOf, Item, Given, Seq, ‵, raw, _$_, move, keep, use0, join}
 use Rattle.lent.proofs.Walking.{suffices, done, Is, Slot, owned, Triple, Ended, Clauses, closing, onEntry}
-use Rattle.lent.proofs.Walking.{tripleOf}
+use Rattle.lent.proofs.Walking.{tripleOf, walkOf, Walks}
 use Rattle.lent.proofs.Values.{Valued}
 
 abbrev dropped : {n : ℕ} (ss : List (Slot n)) (ks : Kepts ss) → Stays ss ks

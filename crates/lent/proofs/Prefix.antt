@@ -3,10 +3,10 @@ use Prim.Native.Nat.{zero, suc, _+_}
 use lib.ListN.{take}
 use base.Logic.{emp∗, snd∗}
 use types.Share.{parts, arr-parts}
-use denote.Memory.{mem, shares}
+use denote.Memory.{shares}
 use Rattle.lent.proofs.Walking.{_≡_, refl, List, [], _∷_, ℕ, length, URA, SProp, ent, sep, emp, Share, Fml}
 use Rattle.lent.proofs.Walking.{ftrue, Heap, Atoms, sem, Given, ‵, _⊛_, _$_, _∵_, !, qed, move, drop, use1, use2}
-use Rattle.lent.proofs.Walking.{split, done, fsplit, fjoin, feqI}
+use Rattle.lent.proofs.Walking.{split, done, fsplit, fjoin, feqI, mem}
 use Rattle.tables.specs.declared.LeapEntry.{LeapEntry}
 use Rattle.tables.proofs.LeapEntry as E
 

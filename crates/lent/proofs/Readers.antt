@@ -7,16 +7,12 @@ use prog.Routine.{Env as Routines}
 use prog.Wp.{Closed}
 use contract.Running.{GhostRules, Running}
 use package.mir.Syntax.{local, valueLocal, return, place, copy, int}
-use contract.Monad.{factI}
-use denote.Plain.{uint-makes}
-use denote.Builtin.{u64}
-use denote.Triple.Walked.{Walks}
 use Rattle.lent.proofs.Walking.{_≡_, refl, List, [], _∷_, URA, Ty, Name, Fn, named, w64, seq, call, vint, emp}
-use Rattle.lent.proofs.Walking.{id⊢, ftrue, Routine, Heap, Tables, WpFn, Atoms, fact, givenOf, tables, tablesOf}
-use Rattle.lent.proofs.Walking.{Given, ‵, raw, _⊛_, _$_, _∵_, !, qed, move, split, look, init, lit, and-then}
-use Rattle.lent.proofs.Walking.{no-more, returns, params1, pass1, pass0, free0, RattleType, slice-vals}
-use Rattle.lent.proofs.Walking.{shr-slice-tells, plain, Contract, Triple, Ended, Clauses, closing, tripleOf}
-use Rattle.lent.proofs.Walking.{cited, walked, yes}
+use Rattle.lent.proofs.Walking.{id⊢, ftrue, Routine, Heap, Tables, WpFn, Atoms, fact, factI, givenOf, tables}
+use Rattle.lent.proofs.Walking.{tablesOf, Given, ‵, raw, _⊛_, _$_, _∵_, !, qed, move, split, look, init, lit}
+use Rattle.lent.proofs.Walking.{and-then, no-more, returns, params1, pass1, pass0, free0, RattleType, uint-makes}
+use Rattle.lent.proofs.Walking.{u64, slice-vals, shr-slice-tells, plain, Contract, Triple, Ended, Clauses}
+use Rattle.lent.proofs.Walking.{closing, tripleOf, cited, Walks, walked, yes}
 use Rattle.tables.specs.declared.LeapEntry.{LeapEntry}
 use Rattle.tables.proofs.LeapEntry as E
 use Rattle.lent.specs.declared.inner.Pass.{Pass}

@@ -1,17 +1,13 @@
 -- `tai_minus_utc_at` makes the pass at its reading and reads the offset in force off it.
 use mathlib.Core.Path.{_∙_}
-use base.Logic.{via, fst∗}
-use contract.Monad.{factI}
-use denote.Plain.{uint-makes}
-use denote.Builtin.{u64}
 use denote.Struct.Laws as struct
-use denote.Triple.Walked.{Walks, walkOf}
-use Rattle.lent.proofs.Walking.{_≡_, refl, List, [], _∷_, length, URA, named, w64, vint, SProp, emp, id⊢, Lft}
-use Rattle.lent.proofs.Walking.{Share, Memory, Routine, Heap, Tables, WpFn, Atoms, Fun, givenOf, tables}
-use Rattle.lent.proofs.Walking.{tablesOf, Given, ‵, _⊛_, _$_, _∵_, !, qed, move, split, look, init, stop, fld}
-use Rattle.lent.proofs.Walking.{from, load, and-then, no-more, returns, params1, pass1, pass0, free0, whole, sub}
-use Rattle.lent.proofs.Walking.{look-in, owns, Is, RefT, Room, slice-vals, shr-slice-tells, plain, Triple}
-use Rattle.lent.proofs.Walking.{Clauses, tripleOf, cited, walked, yes}
+use Rattle.lent.proofs.Walking.{_≡_, refl, List, [], _∷_, length, URA, named, w64, vint, SProp, emp, id⊢, via}
+use Rattle.lent.proofs.Walking.{fst∗, Lft, Share, Memory, Routine, Heap, Tables, WpFn, Atoms, Fun, factI}
+use Rattle.lent.proofs.Walking.{givenOf, tables, tablesOf, Given, ‵, _⊛_, _$_, _∵_, !, qed, move, split, look}
+use Rattle.lent.proofs.Walking.{init, stop, fld, from, load, and-then, no-more, returns, params1, pass1, pass0}
+use Rattle.lent.proofs.Walking.{free0, whole, sub, look-in, owns, Is, uint-makes, u64, mem, RefT, Room}
+use Rattle.lent.proofs.Walking.{slice-vals, shr-slice-tells, plain, Triple, Clauses, tripleOf, cited, walkOf}
+use Rattle.lent.proofs.Walking.{Walks, walked, yes}
 use Rattle.refusals.specs.Outcome.{answered}
 use Rattle.scales.specs.declared.tai.Tai.{Tai}
 use Rattle.scales.proofs.tai.Tai as Z

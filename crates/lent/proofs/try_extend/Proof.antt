@@ -1,20 +1,19 @@
 -- `try_extend`: the borrow is opened, the table is copied out, the extension by value is called on the copy, the table
 -- that it made is stored, and the borrow is closed at that table.
-use base.Logic.{via, fst∗}
 use types.Kit.{fsplit3, fjoin3}
 use types.Run.{look-raw, store-raw, hop}
 use denote.Ref.{MutRef, ptr-vals, mut-tells}
 use denote.Steps.{opens, closes}
 use denote.Struct.Steps.{spelt}
 use denote.Struct.Laws as struct
-use denote.Triple.Walked.{Stays, Walks, stay-ref, stay-dropped, goes-ref, goes-dropped, walkOf, ends-at}
+use denote.Triple.Walked.{Stays, stay-ref, stay-dropped, goes-ref, goes-dropped, ends-at}
 use Rattle.lent.proofs.Walking.{_≡_, refl, List, [], _∷_, ℕ, URA, fullShare, named, Val, vptr, SProp, emp, id⊢}
-use Rattle.lent.proofs.Walking.{Lft, GName, Share, ftrue, flft, Memory, Routine, Heap, Tables, WpFn, Atoms, Fun}
-use Rattle.lent.proofs.Walking.{givenOf, tables, tablesOf, Given, ‵, _⊛_, _$_, _∵_, !, qed, move, keep, drop}
-use Rattle.lent.proofs.Walking.{split, join, suffices, frame, done, fsplit, fjoin, feqI, look, init, stop, fld}
-use Rattle.lent.proofs.Walking.{from, load, of-opd, assigns, and-then, returns, params1, pass1, pass0, free0}
-use Rattle.lent.proofs.Walking.{whole, sub, look-in, owns, Is, shows, RefT, plain, owned, nothing, peeks, Triple}
-use Rattle.lent.proofs.Walking.{Clauses, tripleOf, cited, says, walked, yes}
+use Rattle.lent.proofs.Walking.{via, fst∗, Lft, GName, Share, ftrue, flft, Memory, Routine, Heap, Tables, WpFn}
+use Rattle.lent.proofs.Walking.{Atoms, Fun, givenOf, tables, tablesOf, Given, ‵, _⊛_, _$_, _∵_, !, qed, move}
+use Rattle.lent.proofs.Walking.{keep, drop, split, join, suffices, frame, done, fsplit, fjoin, feqI, look, init}
+use Rattle.lent.proofs.Walking.{stop, fld, from, load, of-opd, assigns, and-then, returns, params1, pass1, pass0}
+use Rattle.lent.proofs.Walking.{free0, whole, sub, look-in, owns, Is, shows, mem, RefT, plain, owned, nothing}
+use Rattle.lent.proofs.Walking.{peeks, Triple, Clauses, tripleOf, cited, says, walkOf, Walks, walked, yes}
 use Rattle.tables.specs.Answers.{tableAnswerIn}
 use Rattle.tables.specs.Slots.{extended}
 use Rattle.tables.specs.declared.LeapEntry.{LeapEntry}
@@ -68,7 +67,8 @@ module _ {M : Type 1} (𝓤 : URA M) (H : Heap 𝓤) (A : Atoms 𝓤) (W : Given
         let parts = struct.owed X.the-type X.Laws.the-laws r _ g in
         lands-at ! 6 refl (a-growth .typed W r g) $
         assigns ! (of-opd ! (load ! (from ! (fld ! {d = 8} refl (stop !)))
-        (look-in ! 6 (sub ! 1 {d = 8} refl (whole !))))) (from ! (hop ! (look ! 10 refl) (stop !))) (store-raw ! 0 refl (a-table .typed W (r .table) (parts .1 .0))) $
+        (look-in ! 6 (sub ! 1 {d = 8} refl (whole !))))) (from ! (hop ! (look ! 10 refl) (stop !)))
+        (store-raw ! 0 refl (a-table .typed W (r .table) (parts .1 .0))) $
         sets ! 12 (of-opd ! (load ! (from ! (fld ! refl (stop !))) (look-in ! 6 (sub ! 0 refl (whole !))))) refl
         (a-refusal .typed W (r .answer) (parts .0)) $
         owned ! T.the-row (Is T.the-row) (a-table .makes W) (r .table) (tv (r .table) ∷ []) (parts .1 .0) $
@@ -79,7 +79,8 @@ module _ {M : Type 1} (𝓤 : URA M) (H : Heap 𝓤) (A : Atoms 𝓤) (W : Given
         -- the contract is shown: the table afterwards and the answer are those of the extension by value
         suffices ! _ (ends-at 𝓤 H A this.ended stayed c W y _ (r .answer) (r .table, (tt, tt)) (tt, (tt, tt))) $
         says ! is $ nothing ! $ move ! (3 ∷ 0 ∷ []) $ join ! $ frame ! $
-        feqI ! (List Val) (vptr b o ∷ []) (vptr b o ∷ []) refl $ fjoin3 ! $ nothing ! $ nothing ! $ fjoin ! $ move ! (1 ∷ 0 ∷ []) $ fjoin ! $ frame ! $
+        feqI ! (List Val) (vptr b o ∷ []) (vptr b o ∷ []) refl $ fjoin3 ! $ nothing ! $ nothing ! $ fjoin ! $
+        move ! (1 ∷ 0 ∷ []) $ fjoin ! $ frame ! $
         owned ! K.the-row (Is K.the-row) (a-refusal .makes W) (r .answer) _ (parts .0) $ done !))))
 
   walks : Walks 𝓤 H A this.ended stayed (WpFn 𝓤 H (𝓣 .C) (𝓣 .Λ) this.Code.function) c

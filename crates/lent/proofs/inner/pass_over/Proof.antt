@@ -1,29 +1,24 @@
 -- `inner::pass_over`: each turn copies the entry at i out of the lent list and calls `pass_on` on the pass and the
 -- copy.
-use mathlib.Core.Path.{sym}
 use Prim.Native.Nat.{_<_}
 use mathlib.Core.WellFounded.{InvImage·wf}
 use lib.Dec.{lit<}
 use lib.WfN.{Nat·lt-wfRel}
 use package.mir.Syntax.{tyInt, tyBool, tyPtr}
-use base.Logic.{via, fst∗}
 use base.Fml.{froom, fdies}
 use prog.Wp.{Out, Wp, afterSeq, afterBlock, afterTurn, atReturn}
-use contract.Monad.{factI}
 use types.Kit.{Sq, anyQ, atRet}
 use types.Run.{Below, again, loops, look-raw, store, hop, bin, assigns-last, first, blocks, exec}
-use denote.Plain.{uint-makes, uint-vals, uint-tells}
-use denote.Builtin.{u64}
 use denote.Index.{place-is}
-use denote.Triple.Walked.{Walks, walkOf}
-use Rattle.lent.proofs.Walking.{_≡_, refl, List, [], _∷_, ℕ, length, URA, fullShare, named, w64, Val, vint, vptr}
-use Rattle.lent.proofs.Walking.{SProp, emp, id⊢, Lft, GName, Share, ftrue, fat, flft, Memory, Routine, Heap, Env}
-use Rattle.lent.proofs.Walking.{Tables, WpFn, Atoms, Fun, givenOf, tables, tablesOf, Item, Given, runs, ‵, _⊛_}
-use Rattle.lent.proofs.Walking.{_$_, _∵_, !, qed, move, drop, use1, split, join, rewrite, fsplit, look, init}
-use Rattle.lent.proofs.Walking.{stop, fld, from, load, lit, of-opd, assigns, land, and-then, forget, returns}
-use Rattle.lent.proofs.Walking.{params1, pass1, pass0, free1, free0, whole, sub, look-in, owns, Is, RefT}
-use Rattle.lent.proofs.Walking.{sliceVal, ShrSlice, Room, slice-vals, shr-slice-tells, nothing, Triple, Clauses}
-use Rattle.lent.proofs.Walking.{tripleOf, cited, walked}
+use Rattle.lent.proofs.Walking.{_≡_, refl, sym, List, [], _∷_, ℕ, length, URA, fullShare, named, w64, Val, vint}
+use Rattle.lent.proofs.Walking.{vptr, SProp, emp, id⊢, via, fst∗, Lft, GName, Share, ftrue, fat, flft, Memory}
+use Rattle.lent.proofs.Walking.{Routine, Heap, Env, Tables, WpFn, Atoms, Fun, factI, givenOf, tables, tablesOf}
+use Rattle.lent.proofs.Walking.{Item, Given, runs, ‵, _⊛_, _$_, _∵_, !, qed, move, drop, use1, split, join}
+use Rattle.lent.proofs.Walking.{rewrite, fsplit, look, init, stop, fld, from, load, lit, of-opd, assigns, land}
+use Rattle.lent.proofs.Walking.{and-then, forget, returns, params1, pass1, pass0, free1, free0, whole, sub}
+use Rattle.lent.proofs.Walking.{look-in, owns, Is, uint-vals, uint-tells, uint-makes, u64, mem, RefT, sliceVal}
+use Rattle.lent.proofs.Walking.{ShrSlice, Room, slice-vals, shr-slice-tells, nothing, Triple, Clauses, tripleOf}
+use Rattle.lent.proofs.Walking.{cited, walkOf, Walks, walked}
 use Rattle.tables.specs.declared.LeapEntry.{LeapEntry}
 use Rattle.tables.proofs.LeapEntry as E
 use Rattle.lent.specs.Pass.{seenIn, begun, after}
@@ -151,8 +146,8 @@ module _ {M : Type 1} (𝓤 : URA M) (H : Heap 𝓤) (A : Atoms 𝓤) (W : Given
       (λ κs. (slice-vals, (uint-vals w64, tt)))
       (λ κs. (shr-slice-tells (named 0) (κs .0) E.the-row, (uint-tells w64, tt))) (λ κs qs bounds a _ are.
       let x = a .0 in
-      via 𝓤 _ (fst∗ 𝓤 _ (emp 𝓤)) (walk (κs .0) (qs .0) (x .ptr .0) (x .ptr .1) (x .name) (x .now) (a .1 .0) (are .0 .0 .1)
-      (are .1 .0)))
+      via 𝓤 _ (fst∗ 𝓤 _ (emp 𝓤))
+      (walk (κs .0) (qs .0) (x .ptr .0) (x .ptr .1) (x .name) (x .now) (a .1 .0) (are .0 .0 .1) (are .1 .0)))
 
 pub pass-over-spec : {M : Type 1} → this.Statement.statement M
 unfolding this.Code.routine tablesOf

@@ -1,22 +1,19 @@
 -- `inner::copied::extended_in_place`: a local table is lent for a lifetime that is made for the call, and is back at
 -- the last value that the callee's contract says.
-use base.Logic.{via, fst∗}
 use base.Fml.{flent}
-use contract.Monad.{factI}
 use types.Kit.{use3}
 use types.Tokens.{lft-new, lft-end}
 use types.SemTy.{Body as Lent}
-use denote.Memory.{mem}
 use denote.Lend.{lends-ref, ref-back}
 use denote.Ref.{MutRef}
 use denote.Struct.Laws as struct
-use denote.Triple.Walked.{Walks, walkOf}
-use Rattle.lent.proofs.Walking.{_≡_, refl, [], _∷_, ℕ, URA, fullShare, named, vptr, SProp, emp, id⊢, GName}
-use Rattle.lent.proofs.Walking.{ftrue, flft, Memory, Routine, Heap, Tables, WpFn, Atoms, Fun, givenOf, tables}
-use Rattle.lent.proofs.Walking.{tablesOf, Given, ‵, raw, some, later, _⊛_, _$_, _∵_, !, qed, move, keep, use0}
-use Rattle.lent.proofs.Walking.{use1, split, join, pick, await, fsplit, fjoin, look, init, stop, from, of-opd}
-use Rattle.lent.proofs.Walking.{addr, and-then, forget, returns, params1, pass1, pass0, free1, free0, agg, owns}
-use Rattle.lent.proofs.Walking.{Is, RefT, owned, nothing, Triple, Clauses, tripleOf, cited, walked}
+use Rattle.lent.proofs.Walking.{_≡_, refl, [], _∷_, ℕ, URA, fullShare, named, vptr, SProp, emp, id⊢, via, fst∗}
+use Rattle.lent.proofs.Walking.{GName, ftrue, flft, Memory, Routine, Heap, Tables, WpFn, Atoms, Fun, factI}
+use Rattle.lent.proofs.Walking.{givenOf, tables, tablesOf, Given, ‵, raw, some, later, _⊛_, _$_, _∵_, !, qed}
+use Rattle.lent.proofs.Walking.{move, keep, use0, use1, split, join, pick, await, fsplit, fjoin, look, init}
+use Rattle.lent.proofs.Walking.{stop, from, of-opd, addr, and-then, forget, returns, params1, pass1, pass0}
+use Rattle.lent.proofs.Walking.{free1, free0, agg, owns, Is, mem, RefT, owned, nothing, Triple, Clauses}
+use Rattle.lent.proofs.Walking.{tripleOf, cited, walkOf, Walks, walked}
 use Rattle.tables.specs.Answers.{takenIn}
 use Rattle.tables.specs.Slots.{extended}
 use Rattle.tables.specs.declared.LeapEntry.{LeapEntry}
@@ -66,8 +63,8 @@ module _ {M : Type 1} (𝓤 : URA M) (H : Heap 𝓤) (A : Atoms 𝓤) (W : Given
         use1 W (later (some (λ (γ : GName). ‵ (MutRef (named 0) (α ∷ []) T.the-row .own (x l₃ γ) (vptr l₃ 0 ∷ []))
         ⊛ ‵ (flent (α ∷ []) (Lent (mem T.the-row) l₃ 0 γ))))) (lends-ref 𝓤 H A W T.the-row (named 0) (α ∷ []) h l₃ 0) $
         await ! tt $ pick ! (λ γ. split ! $ move ! (0 ∷ 2 ∷ []) $ nothing ! $
-        owned ! E.the-row (Is E.the-row) (an-entry .makes W) e _ ge $ fjoin ! $ move ! (1 ∷ 0 ∷ []) $ fjoin ! $ nothing ! $
-        move ! (2 ∷ 0 ∷ []) $ join ! $ join ! $ nothing ! $ move ! (1 ∷ 0 ∷ []) $ join ! $
+        owned ! E.the-row (Is E.the-row) (an-entry .makes W) e _ ge $ fjoin ! $ move ! (1 ∷ 0 ∷ []) $ fjoin ! $
+        nothing ! $ move ! (2 ∷ 0 ∷ []) $ join ! $ join ! $ nothing ! $ move ! (1 ∷ 0 ∷ []) $ join ! $
         use1 W (Asked 𝓤 H A one.ended c₁ (handed α l₃ γ)) (id⊢ 𝓤 _) $
         -- [what `try_extend` asks; the lender's part; _6 at 2; _5 at 4; _4 at 6; that _3 dies at 8; _2 at 9; _1 at
         -- 11; _0 at 13]

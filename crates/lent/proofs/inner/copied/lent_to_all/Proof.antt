@@ -1,31 +1,29 @@
 -- `inner::copied::lent_to_all`: of a local array the first n entries are lent for a lifetime that is made here, to each
 -- call in turn, and are back as they were.
-use mathlib.Core.Path.{sym, subst}
 use Prim.Native.Nat.{_≤_}
 use lib.ListN.{take}
 use lib.Seq.{length-take-le}
 use lib.Dec.{eqb, lit<}
 use package.mir.Syntax.{erased, imm, tyRef}
 use base.Fml.{flent}
-use contract.Monad.{factI}
 use types.Tokens.{lft-new, lft-end, lent-back}
 use denote.Memory.{partAt, pointee}
 use denote.Array.{Array}
 use denote.ArrayMemory.{array-apart, array-whole}
-use denote.Plain.{uint-vals, uint-tells}
 use denote.Builtin.{usize}
 use denote.Lend.{lends-shr-slice}
 use denote.Slice.{sliceTy}
 use borrow.Rule.Array.Share.{room-take}
 use denote.Struct.Laws as struct
-use denote.Triple.Walked.{Walks, needs, walkOf}
-use Rattle.lent.proofs.Walking.{_≡_, refl, List, [], _∷_, ℕ, length, URA, fullShare, Ty, named, w64, Val, vint}
-use Rattle.lent.proofs.Walking.{SProp, emp, id⊢, GName, Share, ftrue, fat, flft, Memory, Routine, Heap, Tables}
-use Rattle.lent.proofs.Walking.{WpFn, Atoms, Fun, givenOf, tables, tablesOf, Given, ‵, raw, some, later, _⊛_}
-use Rattle.lent.proofs.Walking.{_$_, _∵_, !, qed, move, keep, use0, use1, use2, split, join, pick, await}
-use Rattle.lent.proofs.Walking.{rewrite, look, init, stop, from, of-opd, addr, and-then, forget, returns}
-use Rattle.lent.proofs.Walking.{params1, pass1, pass0, free1, free0, agg, owns, Is, RefT, sliceVal, Room, plain}
-use Rattle.lent.proofs.Walking.{nothing, Triple, Clauses, cited, walked, yes}
+use denote.Triple.Walked.{needs}
+use Rattle.lent.proofs.Walking.{_≡_, refl, sym, subst, List, [], _∷_, ℕ, length, URA, fullShare, Ty, named, w64}
+use Rattle.lent.proofs.Walking.{Val, vint, SProp, emp, id⊢, GName, Share, ftrue, fat, flft, Memory, Routine}
+use Rattle.lent.proofs.Walking.{Heap, Tables, WpFn, Atoms, Fun, factI, givenOf, tables, tablesOf, Given, ‵, raw}
+use Rattle.lent.proofs.Walking.{some, later, _⊛_, _$_, _∵_, !, qed, move, keep, use0, use1, use2, split, join}
+use Rattle.lent.proofs.Walking.{pick, await, rewrite, look, init, stop, from, of-opd, addr, and-then, forget}
+use Rattle.lent.proofs.Walking.{returns, params1, pass1, pass0, free1, free0, agg, owns, Is, uint-vals}
+use Rattle.lent.proofs.Walking.{uint-tells, mem, RefT, sliceVal, Room, plain, nothing, Triple, Clauses, cited}
+use Rattle.lent.proofs.Walking.{walkOf, Walks, walked, yes}
 use Rattle.refusals.specs.Outcome.{answered}
 use Rattle.scales.specs.declared.tai.Tai.{Tai}
 use Rattle.scales.proofs.tai.Tai as Z
@@ -119,8 +117,8 @@ module _ {M : Type 1} (𝓤 : URA M) (H : Heap 𝓤) (A : Atoms 𝓤) (W : Given
         use1 W (‵ (Elems q 70 h l₄ 0)) (array-apart 𝓤 H A W E.the-row q tt 70 h l₄ 0) $
         use1 W (‵ (Elems q (length ys) ys l₄ 0) ⊛ ‵ (Rest q n h l₄ 0)) (prefix-out 𝓤 H A W q n h l₄ 0) $
         split ! $ lft-new ! tt (λ α. move ! (1 ∷ []) $
-        use1 W (later (some (λ (γ : GName). ‵ (List& (α ∷ []) (x l₄ γ)) ⊛ ‵ (flent (α ∷ []) (Elems q (length ys) ys l₄ 0)))))
-        (lends-shr-slice 𝓤 H A W E.the-row (named 0) (α ∷ []) q ys l₄ 0 room) $
+        use1 W (later (some (λ (γ : GName).
+        ‵ (List& (α ∷ []) (x l₄ γ)) ⊛ ‵ (flent (α ∷ []) (Elems q (length ys) ys l₄ 0))))) (lends-shr-slice 𝓤 H A W E.the-row (named 0) (α ∷ []) q ys l₄ 0 room) $
         await ! tt $ pick ! (λ γ. split ! $ nothing ! $ move ! (3 ∷ 0 ∷ []) $ join ! $
         use1 W (Token 𝓤 A (α ∷ []) q) (id⊢ 𝓤 _) $ move ! (1 ∷ []) $
         -- [the list; the token; the lender's part; the rest; _12 at 4; _11 at 6; _10 at 8; _9 at 10; _8 at 12; _7 at
@@ -152,8 +150,9 @@ module _ {M : Type 1} (𝓤 : URA M) (H : Heap 𝓤) (A : Atoms 𝓤) (W : Given
         (and-then ! (held ! 7 refl) (and-then ! (held ! 5 refl) (arg ! 3 refl))))))) refl (answers .typed W r g) $
         returns ! (look ! 26 refl) $ frees-at ! 26 refl $ frees-at ! 24 refl $ frees-at ! 22 refl $ frees-at ! 20 refl $
         forget ! 0 refl $ move ! (0 ∷ 19 ∷ []) $ free1 ! $ frees-at ! 16 refl $ frees-at ! 14 refl $
-        frees-at ! 12 refl $ frees-at ! 10 refl $ frees-at ! 8 refl $ frees-at ! 6 refl $ frees-at ! 4 refl $ frees-at ! 2 refl $ free0 ! $
-        use0 W (raw (emp 𝓤)) (id⊢ 𝓤 _) $ ends ! this.ended c y answers r (tt, (tt, (tt, tt))) g (factI 𝓤 _ (emp 𝓤) (λ i.
+        frees-at ! 12 refl $ frees-at ! 10 refl $ frees-at ! 8 refl $ frees-at ! 6 refl $ frees-at ! 4 refl $
+        frees-at ! 2 refl $ free0 ! $ use0 W (raw (emp 𝓤)) (id⊢ 𝓤 _) $
+        ends ! this.ended c y answers r (tt, (tt, (tt, tt))) g (factI 𝓤 _ (emp 𝓤) (λ i.
         record { check = p₁ i; size = p₂ i; empty = p₃ i; update = p₄ i; current = p₅ i; inForce = p₆ i }))))))))))))
 
   walks : Walks 𝓤 H A this.ended (let-go this.ended) (WpFn 𝓤 H (𝓣 .C) (𝓣 .Λ) this.Code.function) c
