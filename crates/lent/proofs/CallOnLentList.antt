@@ -25,7 +25,7 @@ abbrev pub Token : {M : Type 1} (𝓤 : URA M) → Atoms 𝓤 → Lft → Share 
 Token 𝓤 A κ q = raw (sep 𝓤 (A .lft κ q) (emp 𝓤))
 
 -- the parameters after the list are ss
-module _ (R : RattleType) (ss : List (Slot 1)) (ks : Kepts ss) where
+module _ {R : RattleType} (ν : Valued R) (ss : List (Slot 1)) (ks : Kepts ss) where
   abbrev pub listed : Ended
   listed = record {
     signature = record {
@@ -48,20 +48,20 @@ module _ (R : RattleType) (ss : List (Slot 1)) (ks : Kepts ss) where
     abbrev pub Answering : Contract 𝓤
     Answering = tripleOf 𝓤 H A (listed .signature) (closing 𝓤 H A listed lists)
 
-module _ {R : RattleType} (ν : Valued R) (ss : List (Slot 1)) (ks : Kepts ss) (ψ : Saying R ss ks) (κ : Lft) (q : Share)
+module _ {R : RattleType} (ν : Valued R) (ss : List (Slot 1)) (ks : Kepts ss) (ψ : Saying ν ss ks) (κ : Lft) (q : Share)
     (x : RefT (List LeapEntry)) (a : Denots (typesAt ss (κ, tt))) (vss : Valss (typesAt ss (κ, tt))) where
   abbrev Rs : List RattleType
   Rs = typesAt ss (κ, tt)
 
   -- what is chosen for the callee
-  abbrev y : {M : Type 1} (𝓤 : URA M) (H : Heap 𝓤) (A : Atoms 𝓤) → Answering R ss ks 𝓤 H A ψ .Ghost
+  abbrev y : {M : Type 1} (𝓤 : URA M) (H : Heap 𝓤) (A : Atoms 𝓤) → Answering ν ss ks 𝓤 H A ψ .Ghost
   y 𝓤 H A = (((κ, tt), (q, tt), tt, (x, a), (slice-vals x, vss)), tt)
 
   pub asks : {M : Type 1} {𝓤 : URA M} {H : Heap 𝓤} {A : Atoms 𝓤} {K : Type 0} {W : Given 𝓤 H A} {Γ : List (Item 𝓤)}
       {E : Env 𝓤 H} {f : Name} {xs : List Operand} {Λ : Loops 𝓤 H} {p : Post 𝓤 H} {d : Place} {rest : Body}
-      → K → (𝓣 : Tables 𝓤 H) → Triple 𝓤 (𝓣 .C f) (Answering R ss ks 𝓤 H A ψ)
+      → K → (𝓣 : Tables 𝓤 H) → Triple 𝓤 (𝓣 .C f) (Answering ν ss ks 𝓤 H A ψ)
       → Makess 𝓤 H A Rs (Ises Rs) → Are Rs (Ises Rs) a vss
-      → Opds K W (raw (Answering R ss ks 𝓤 H A ψ .pre (y 𝓤 H A)) ∷ ‵ (List& κ x) ∷ Γ) E xs (slice-vals x ++ flat Rs vss)
+      → Opds K W (raw (Answering ν ss ks 𝓤 H A ψ .pre (y 𝓤 H A)) ∷ ‵ (List& κ x) ∷ Γ) E xs (slice-vals x ++ flat Rs vss)
       → ((r : R .Denot) → ψ (κ, tt) (x, a) r → Is R r (ν .val r ∷ [])
       → Seq K W (‵ (List& κ x) ∷ Token 𝓤 A κ q ∷ Γ) (lands (𝓣 .C) Λ E d (ν .val r) rest p))
       → Seq K W (‵ (List& κ x) ∷ Token 𝓤 A κ q ∷ Γ) (runs (𝓣 .C) Λ E (seq (call f xs d) rest) p)
@@ -69,6 +69,6 @@ module _ {R : RattleType} (ν : Valued R) (ss : List (Slot 1)) (ks : Kepts ss) (
       use1 W (‵ (List& κ x) ⊛ ‵ (List& κ x)) (shr-slice-copy 𝓤 H A W (named 0) κ E.the-row .twice x (slice-vals x)) $
       split t $ move t (1 ∷ []) $ use0 W (‵ (owns Rs a vss)) (owns-make 𝓤 H A Rs (Ises Rs) makes a vss are) $
       move t (1 ∷ 0 ∷ []) $ fjoin t $ move t (2 ∷ 0 ∷ []) $ join t $ nothing t $ move t (1 ∷ 0 ∷ []) $ join t $
-      use1 W (raw (Answering R ss ks 𝓤 H A ψ .pre (y 𝓤 H A))) (id⊢ 𝓤 _) $
-      calls-told t 𝓣 (listed R ss ks) (lists R ss ks 𝓤 H A ψ) known (y 𝓤 H A) (λ r ws. ψ (κ, tt) (x, a) r)
+      use1 W (raw (Answering ν ss ks 𝓤 H A ψ .pre (y 𝓤 H A))) (id⊢ 𝓤 _) $
+      calls-told t 𝓣 (listed ν ss ks) (lists ν ss ks 𝓤 H A ψ) known (y 𝓤 H A) (λ r ws. ψ (κ, tt) (x, a) r)
       (λ r ws. id⊢ 𝓤 _) ν os (λ r ws is g. move t (2 ∷ 0 ∷ []) $ move t (2 ∷ []) $ drop t $ k r is g)

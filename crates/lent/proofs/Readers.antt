@@ -28,7 +28,7 @@ use Rattle.lent.proofs.CallOnLentList.{List&, Token, listed, lists, Ans
 -- the pass, at a reading
 abbrev pub Passing : {M : Type 1} (𝓤 : URA M) (H : Heap 𝓤) (A : Atoms 𝓤) → Contract 𝓤
 Passing 𝓤 H A =
-    Answering P.the-row (plain (λ _. u64) ∷ []) (yes, tt) 𝓤 H A (λ κs a p. Said (a .1 .0) (a .0 .now) p)
+    Answering a-pass (plain (λ _. u64) ∷ []) (yes, tt) 𝓤 H A (λ κs a p. Said (a .1 .0) (a .0 .now) p)
 
 -- a reader, whose answer is viewed as f of the pass
 module _ (R : RattleType) {X : Type 0} (view : R .Denot → X) (f : Pass → X) {M : Type 1} (𝓤 : URA M) where
@@ -45,9 +45,9 @@ module _ (R : RattleType) {X : Type 0} (view : R .Denot → X) (f : Pass → X) 
   Reading H A = tripleOf 𝓤 H A (reader .signature) (closing 𝓤 H A reader reads)
 
 -- a call on a lent list, whose answer is viewed as g of the list
-abbrev pub Viewing : (R : RattleType) {X : Type 0} (view : R .Denot → X) (g : List LeapEntry → X) {M : Type 1}
-    (𝓤 : URA M) (H : Heap 𝓤) (A : Atoms 𝓤) → Contract 𝓤
-Viewing R view g 𝓤 H A = Answering R [] tt 𝓤 H A (λ κs a r. view r ≡ g (a .0 .now))
+abbrev pub Viewing : {R : RattleType} (ν : Valued R) {X : Type 0} (view : R .Denot → X) (g : List LeapEntry → X)
+    {M : Type 1} (𝓤 : URA M) (H : Heap 𝓤) (A : Atoms 𝓤) → Contract 𝓤
+Viewing ν view g 𝓤 H A = Answering ν [] tt 𝓤 H A (λ κs a r. view r ≡ g (a .0 .now))
 
 -- the code; τ is the machine's type of the answer
 abbrev reading : Ty → Name → Fn
@@ -64,10 +64,10 @@ reading τ #read = record {
 module _ {R : RattleType} (ν : Valued R) {X : Type 0} (view : R .Denot → X) {f : Pass → X} {g : List LeapEntry → X}
     (law : (ys : List LeapEntry) (p : Pass) → Said 0 ys p → f p ≡ g ys) {M : Type 1} (𝓤 : URA M) (H : Heap 𝓤) where
   abbrev T : Ended
-  T = listed R [] tt
+  T = listed ν [] tt
 
   abbrev c : Atoms 𝓤 → Clauses 𝓤 T
-  c A = lists R [] tt 𝓤 H A (λ κs a r. view r ≡ g (a .0 .now))
+  c A = lists ν [] tt 𝓤 H A (λ κs a r. view r ≡ g (a .0 .now))
 
   walks : (A : Atoms 𝓤) (W : Given 𝓤 H A) (𝓣 : Tables 𝓤 H) (#read : Name)
       → Triple 𝓤 (𝓣 .C over.Symbol.name) (Passing 𝓤 H A) → Triple 𝓤 (𝓣 .C #read) (Reading R view f 𝓤 H A)
@@ -96,7 +96,7 @@ module _ {R : RattleType} (ν : Valued R) {X : Type 0} (view : R .Denot → X) {
   pub reads-off : (𝓜 : Model 𝓤 H) (𝓖 : GhostRules 𝓤 H) (𝓡 : Running 𝓤 H 𝓜) (γ : Routines) (k #read : Name) {r : Routine}
       → Closed 𝓤 H (tables 𝓤 H 𝓜 𝓡 γ .C) (tables 𝓤 H 𝓜 𝓡 γ .Λ) k (reading (ν .mir) #read)
       → γ over.Symbol.name ≡ over.Symbol.routine → γ #read ≡ r → Triple 𝓤 (𝓡 .run r) (Reading R view f 𝓤 H (𝓖 .A))
-      → Triple 𝓤 (tables 𝓤 H 𝓜 𝓡 γ .C k) (Viewing R view g 𝓤 H (𝓖 .A))
+      → Triple 𝓤 (tables 𝓤 H 𝓜 𝓡 γ .C k) (Viewing ν view g 𝓤 H (𝓖 .A))
   unfolding tablesOf
   reads-off 𝓜 𝓖 𝓡 γ k #read closed is-over is-read met =
       by-walk-let-go 𝓤 H 𝓜 𝓖 𝓡 γ T (c (𝓖 .A)) k (reading (ν .mir) #read) closed ((λ κs x w. refl), tt)

@@ -5,9 +5,9 @@ use Rattle.lent.proofs.Walking.{_≡_, refl, List, [], _∷_, length, U
 use Rattle.lent.proofs.Walking.{fst∗, Lft, Share, Memory, Routine, Heap, Tables, WpFn, Atoms, Fun, factI}
 use Rattle.lent.proofs.Walking.{givenOf, tables, tablesOf, Given, ‵, _⊛_, _$_, _∵_, !, qed, move, split, look}
 use Rattle.lent.proofs.Walking.{init, stop, fld, from, load, and-then, no-more, returns, params1, pass1, pass0}
-use Rattle.lent.proofs.Walking.{free0, whole, sub, look-in, owns, Is, uint-makes, u64, mem, RefT, Room}
-use Rattle.lent.proofs.Walking.{slice-vals, shr-slice-tells, plain, Triple, Clauses, tripleOf, cited, walkOf}
-use Rattle.lent.proofs.Walking.{Walks, walked, yes}
+use Rattle.lent.proofs.Walking.{free0, whole, sub, look-in, owns, Is, uint-makes, u64, RefT, Room, slice-vals}
+use Rattle.lent.proofs.Walking.{shr-slice-tells, plain, Triple, Clauses, tripleOf, cited, walkOf, Walks, walked}
+use Rattle.lent.proofs.Walking.{yes}
 use Rattle.refusals.specs.Outcome.{answered}
 use Rattle.scales.specs.declared.tai.Tai.{Tai}
 use Rattle.scales.proofs.tai.Tai as Z

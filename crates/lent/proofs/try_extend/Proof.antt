@@ -12,8 +12,8 @@ use Rattle.lent.proofs.Walking.{via, fst∗, Lft, GName, Share, ftrue, 
 use Rattle.lent.proofs.Walking.{Atoms, Fun, givenOf, tables, tablesOf, Given, ‵, _⊛_, _$_, _∵_, !, qed, move}
 use Rattle.lent.proofs.Walking.{keep, drop, split, join, suffices, frame, done, fsplit, fjoin, feqI, look, init}
 use Rattle.lent.proofs.Walking.{stop, fld, from, load, of-opd, assigns, and-then, returns, params1, pass1, pass0}
-use Rattle.lent.proofs.Walking.{free0, whole, sub, look-in, owns, Is, shows, mem, RefT, plain, owned, nothing}
-use Rattle.lent.proofs.Walking.{peeks, Triple, Clauses, tripleOf, cited, says, walkOf, Walks, walked, yes}
+use Rattle.lent.proofs.Walking.{free0, whole, sub, look-in, owns, Is, shows, RefT, plain, owned, nothing, peeks}
+use Rattle.lent.proofs.Walking.{Triple, Clauses, tripleOf, cited, says, walkOf, Walks, walked, yes}
 use Rattle.tables.specs.Answers.{tableAnswerIn}
 use Rattle.tables.specs.Slots.{extended}
 use Rattle.tables.specs.declared.LeapEntry.{LeapEntry}

@@ -16,7 +16,7 @@ use Rattle.lent.proofs.Walking.{Routine, Heap, Env, Tables, WpFn, Atoms
 use Rattle.lent.proofs.Walking.{Item, Given, runs, ‵, _⊛_, _$_, _∵_, !, qed, move, drop, use1, split, join}
 use Rattle.lent.proofs.Walking.{rewrite, fsplit, look, init, stop, fld, from, load, lit, of-opd, assigns, land}
 use Rattle.lent.proofs.Walking.{and-then, forget, returns, params1, pass1, pass0, free1, free0, whole, sub}
-use Rattle.lent.proofs.Walking.{look-in, owns, Is, uint-vals, uint-tells, uint-makes, u64, mem, RefT, sliceVal}
+use Rattle.lent.proofs.Walking.{look-in, owns, Is, uint-vals, uint-tells, uint-makes, u64, RefT, sliceVal}
 use Rattle.lent.proofs.Walking.{ShrSlice, Room, slice-vals, shr-slice-tells, nothing, Triple, Clauses, tripleOf}
 use Rattle.lent.proofs.Walking.{cited, walkOf, Walks, walked}
 use Rattle.tables.specs.declared.LeapEntry.{LeapEntry}

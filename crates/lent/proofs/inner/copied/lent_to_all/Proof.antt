@@ -22,8 +22,8 @@ use Rattle.lent.proofs.Walking.{Heap, Tables, WpFn, Atoms, Fun, factI, 
 use Rattle.lent.proofs.Walking.{some, later, _⊛_, _$_, _∵_, !, qed, move, keep, use0, use1, use2, split, join}
 use Rattle.lent.proofs.Walking.{pick, await, rewrite, look, init, stop, from, of-opd, addr, and-then, forget}
 use Rattle.lent.proofs.Walking.{returns, params1, pass1, pass0, free1, free0, agg, owns, Is, uint-vals}
-use Rattle.lent.proofs.Walking.{uint-tells, mem, RefT, sliceVal, Room, plain, nothing, Triple, Clauses, cited}
-use Rattle.lent.proofs.Walking.{walkOf, Walks, walked, yes}
+use Rattle.lent.proofs.Walking.{uint-tells, RefT, sliceVal, Room, plain, nothing, Triple, Clauses, cited, walkOf}
+use Rattle.lent.proofs.Walking.{Walks, walked, yes}
 use Rattle.refusals.specs.Outcome.{answered}
 use Rattle.scales.specs.declared.tai.Tai.{Tai}
 use Rattle.scales.proofs.tai.Tai as Z
@@ -31,11 +31,6 @@ use Rattle.tables.specs.Answers.{takenIn, lengthIn, emptyIn, updateIn, offsetIn
 use Rattle.tables.specs.Entries.{checking, offsetAt, currentOffset, lastUpdate}
 use Rattle.tables.specs.declared.LeapEntry.{LeapEntry}
 use Rattle.tables.proofs.LeapEntry as E
-use Rattle.tables.proofs.Taken as K
-use Rattle.tables.proofs.LengthAnswer as N
-use Rattle.tables.proofs.EmptyAnswer as B
-use Rattle.tables.proofs.UpdateAnswer as U
-use Rattle.tables.proofs.OffsetAnswer as O
 use Rattle.lent.specs.Lists.{ofValidList}
 use Rattle.lent.specs.declared.inner.copied.Answers.{Answers}
 use Rattle.lent.proofs.inner.copied.Answers as S
@@ -67,16 +62,16 @@ av = an-array 70 .val
 
 module _ {M : Type 1} (𝓤 : URA M) (H : Heap 𝓤) (A : Atoms 𝓤) (W : Given 𝓤 H A) (at-mem : Memory → SProp 𝓤)
     (run : Routine → Fun 𝓤) (𝓣 : Tables 𝓤 H)
-    (known-check : Triple 𝓤 (𝓣 .C check.Symbol.name) (Viewing K.the-row takenIn checking 𝓤 H A))
+    (known-check : Triple 𝓤 (𝓣 .C check.Symbol.name) (Viewing a-refusal takenIn checking 𝓤 H A))
     (known-len : Triple 𝓤 (𝓣 .C len.Symbol.name)
-    (Viewing N.the-row lengthIn (λ ys. ofValidList ys (answered (length ys))) 𝓤 H A))
+    (Viewing a-length lengthIn (λ ys. ofValidList ys (answered (length ys))) 𝓤 H A))
     (known-empty : Triple 𝓤 (𝓣 .C empty.Symbol.name)
-    (Viewing B.the-row emptyIn (λ ys. ofValidList ys (answered (eqb (length ys) 0))) 𝓤 H A))
+    (Viewing an-emptiness emptyIn (λ ys. ofValidList ys (answered (eqb (length ys) 0))) 𝓤 H A))
     (known-update : Triple 𝓤 (𝓣 .C update.Symbol.name)
-    (Viewing U.the-row updateIn (λ ys. ofValidList ys (answered (lastUpdate ys))) 𝓤 H A))
+    (Viewing an-update updateIn (λ ys. ofValidList ys (answered (lastUpdate ys))) 𝓤 H A))
     (known-current : Triple 𝓤 (𝓣 .C current.Symbol.name)
-    (Viewing O.the-row offsetIn (λ ys. ofValidList ys (answered (currentOffset ys))) 𝓤 H A))
-    (known-at : Triple 𝓤 (𝓣 .C at.Symbol.name) (Answering O.the-row (plain (λ _. Z.the-row) ∷ []) (yes, tt) 𝓤 H A
+    (Viewing an-offset offsetIn (λ ys. ofValidList ys (answered (currentOffset ys))) 𝓤 H A))
+    (known-at : Triple 𝓤 (𝓣 .C at.Symbol.name) (Answering an-offset (plain (λ _. Z.the-row) ∷ []) (yes, tt) 𝓤 H A
     (λ κs a r. offsetIn r ≡ ofValidList (a .0 .now) (answered (offsetAt (a .0 .now) (a .1 .0 .0)))))) where
   abbrev c : Clauses 𝓤 this.ended
   c = this.clauses 𝓤 H A at-mem run
@@ -118,7 +113,8 @@ module _ {M : Type 1} (𝓤 : URA M) (H : Heap 𝓤) (A : Atoms 𝓤) (W : Given
         use1 W (‵ (Elems q (length ys) ys l₄ 0) ⊛ ‵ (Rest q n h l₄ 0)) (prefix-out 𝓤 H A W q n h l₄ 0) $
         split ! $ lft-new ! tt (λ α. move ! (1 ∷ []) $
         use1 W (later (some (λ (γ : GName).
-        ‵ (List& (α ∷ []) (x l₄ γ)) ⊛ ‵ (flent (α ∷ []) (Elems q (length ys) ys l₄ 0))))) (lends-shr-slice 𝓤 H A W E.the-row (named 0) (α ∷ []) q ys l₄ 0 room) $
+        ‵ (List& (α ∷ []) (x l₄ γ)) ⊛ ‵ (flent (α ∷ []) (Elems q (length ys) ys l₄ 0)))))
+        (lends-shr-slice 𝓤 H A W E.the-row (named 0) (α ∷ []) q ys l₄ 0 room) $
         await ! tt $ pick ! (λ γ. split ! $ nothing ! $ move ! (3 ∷ 0 ∷ []) $ join ! $
         use1 W (Token 𝓤 A (α ∷ []) q) (id⊢ 𝓤 _) $ move ! (1 ∷ []) $
         -- [the list; the token; the lender's part; the rest; _12 at 4; _11 at 6; _10 at 8; _9 at 10; _8 at 12; _7 at
