@@ -77,7 +77,7 @@ ends {𝓤 = 𝓤} {H = H} {A = A} {W = W} t T c y ν r ws g said =
 
 module _ {M : Type 1} (𝓤 : URA M) (H : Heap 𝓤) (𝓜 : Model 𝓤 H) (𝓖 : GhostRules 𝓤 H) (𝓡 : Running 𝓤 H 𝓜)
     (γ : Routines) where
-  abbrev pub Runs : Fn → Fun 𝓤
+  abbrev Runs : Fn → Fun 𝓤
   Runs f = WpFn 𝓤 H (tables 𝓤 H 𝓜 𝓡 γ .C) (tables 𝓤 H 𝓜 𝓡 γ .Λ) f
 
   module _ (T : Ended) (c : Clauses 𝓤 T) (k : Name) (f : Fn)

@@ -32,16 +32,16 @@ Passing 𝓤 H A =
 
 -- a reader, whose answer is viewed as f of the pass
 module _ (R : RattleType) {X : Type 0} (view : R .Denot → X) (f : Pass → X) {M : Type 1} (𝓤 : URA M) where
-  abbrev pub reader : Ended
+  abbrev reader : Ended
   reader = record {
     signature = record { lifetimes = 0; outlives = []; params = plain (λ _. P.the-row) ∷ []; result = plain (λ _. R) };
     kept = (yes, tt);
   }
 
-  abbrev pub reads : Clauses 𝓤 reader
+  abbrev reads : Clauses 𝓤 reader
   reads κs a = record { ghost = Unit {0}; requires = λ _. emp 𝓤; ensures = λ _ r _. fact 𝓤 (view r ≡ f (a .0)) }
 
-  abbrev pub Reading : (H : Heap 𝓤) → Atoms 𝓤 → Contract 𝓤
+  abbrev Reading : (H : Heap 𝓤) → Atoms 𝓤 → Contract 𝓤
   Reading H A = tripleOf 𝓤 H A (reader .signature) (closing 𝓤 H A reader reads)
 
 -- a call on a lent list, whose answer is viewed as g of the list
