@@ -1,4 +1,4 @@
--- The names of the logic that the walks share, passed on.
+-- The names of the logic that walks and contracts share, passed on.
 pub use mathlib.Core.Path.{_≡_, refl, sym, subst}
 pub use mathlib.Core.List.{List, [], _∷_}
 pub use Prim.Native.Nat.{ℕ}
