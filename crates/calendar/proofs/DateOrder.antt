@@ -6,7 +6,7 @@ use native.Mathlib.Omega.{arith}
 use native.Mathlib.Decide.{decLt}
 use lib.Dec.{T, ltb→lt, lt→ltb, le→leb}
 use lib.IntN.{ℤ, pos, negsuc, sucℤ}
-use lib.Signed.{_≤ℤ_, _<ℤ_, ltZ, leZ, <ℤ-≤ℤ-trans}
+use lib.Signed.{_<ℤ_, ltZ, leZ, <ℤ-≤ℤ-trans}
 use Rattle.calendar.specs.Calendar.{Date, next, dateOf}
 use Rattle.calendar.proofs.RealDates.{Real}
 use Rattle.calendar.proofs.DayByDay.{after}

@@ -1,6 +1,5 @@
 -- What a date or an answer says in plain values tells which it is.
 use mathlib.Core.Path.{_≡_, ap}
-use Rattle.refusals.specs.Number.{numberOf}
 use Rattle.refusals.proofs.Tells.{number-tells}
 use Rattle.calendar.specs.Calendar.{Date}
 use Rattle.calendar.specs.Answers.{dateIn, spanIn}
@@ -15,6 +14,4 @@ pub span-tells : (x y : SpanAnswer) → spanIn x ≡ spanIn y → x ≡ y
 span-tells (Span n) (Span m) e = cc
 span-tells (Span n) (Refused r) e = cc
 span-tells (Refused r) (Span m) e = cc
-span-tells (Refused r) (Refused s) e =
-    let same : numberOf r ≡ numberOf s = cc in
-    ap Refused (number-tells r s same)
+span-tells (Refused r) (Refused s) e = ap Refused (number-tells r s (cc))

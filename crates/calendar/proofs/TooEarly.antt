@@ -8,17 +8,6 @@ use Rattle.refusals.specs.Outcome.{Outcome, answered, refused}
 use Rattle.calendar.specs.Calendar.{Date}
 use Rattle.calendar.specs.Dates.{tooEarly, daysBetween, ofBoth, daysUntil}
 
--- ---- by the tests
-module _ (a b : Date) (o : Outcome ℤ) where
-  pub first : tooEarly a ≡ true → refused 1 ≡ ofBoth a b o
-  first e = sym (ap (λ (t : Bool). cond (t || tooEarly b) (refused 1) o) e)
-
-  pub second : tooEarly a ≡ false → tooEarly b ≡ true → refused 1 ≡ ofBoth a b o
-  second e f = sym (λ i. cond (e i || f i) (refused 1) o)
-
-  pub neither : tooEarly a ≡ false → tooEarly b ≡ false → o ≡ ofBoth a b o
-  neither e f = sym (λ i. cond (e i || f i) (refused 1) o)
-
 -- ---- by the days between them
 pub record Given (a b : Date) (n : ℤ) : Type 0 where
   pub days : n ≡ daysBetween a b

@@ -28,5 +28,4 @@ returns : call.Tie.Need-returns
 returns c = toZ-ofZ (sub-result c) ∙ read c
 
 pub days-between-spec : {M : Type 1} → call.Statement.statement M
-days-between-spec =
-    call.Tie.close (call.Tie.spec (λ c κs. search needs) (λ c κs. search needs) sub-result returns)
+days-between-spec = call.Tie.close (call.Tie.spec (search needs) (search needs) sub-result returns)

@@ -28,11 +28,4 @@ returns-2 c =
 
 pub nanos-until-spec : {M : Type 1} → call.Statement.statement M
 nanos-until-spec =
-    call.Tie.close
-    (call.Tie.spec
-    (λ c κs. search needs)
-    (λ c. search needs)
-    (λ c κs. search needs)
-    (λ c. search needs)
-    returns
-    returns-2)
+    call.Tie.close (call.Tie.spec (search needs) (search needs) (search needs) (search needs) returns returns-2)

@@ -47,4 +47,4 @@ returns-2 c =
 
 pub seconds-until-spec : {M : Type 1} → call.Statement.statement M
 seconds-until-spec =
-    call.Tie.close (call.Tie.spec (λ c κs. search needs) (λ c. search needs) mul-t7 (λ c. search needs) returns returns-2)
+    call.Tie.close (call.Tie.spec (search needs) (search needs) mul-t7 (search needs) returns returns-2)

@@ -11,4 +11,4 @@ returns : call.Tie.Need-returns
 returns c = ap (λ (y : ℤ). on y (c .args .month) (c .args .day)) (toZ-pos w32 (c .pre .0))
 
 pub date-of-spec : {M : Type 1} → call.Statement.statement M
-date-of-spec = call.Tie.close (call.Tie.spec (λ c. search needs) (λ c. search needs) (λ c. search needs) returns)
+date-of-spec = call.Tie.close (call.Tie.spec (search needs) (search needs) (search needs) returns)

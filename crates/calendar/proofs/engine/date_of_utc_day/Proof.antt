@@ -30,17 +30,5 @@ returns-2 c =
 pub date-of-utc-day-spec : {M : Type 1} → call.Statement.statement M
 date-of-utc-day-spec =
     call.Tie.close
-    (call.Tie.spec
-    (λ c. search needs)
-    (λ c κs. search needs)
-    month-holding-requires
-    (λ c κs. search needs)
-    (λ c. search needs)
-    (λ c. search needs)
-    (λ c. search needs)
-    (λ c κs. search needs)
-    (λ c. search needs)
-    (λ c. search needs)
-    (λ c κs. search needs)
-    returns
-    returns-2)
+    (call.Tie.spec (search needs) (search needs) month-holding-requires (search needs) (search needs) (search needs)
+    (search needs) (search needs) (search needs) (search needs) (search needs) returns returns-2)

@@ -23,5 +23,4 @@ returns : call.Tie.Need-returns
 returns c = by-quarters (c .args .year)
 
 pub days-before-year-spec : {M : Type 1} → call.Statement.statement M
-days-before-year-spec =
-    call.Tie.close (call.Tie.spec (λ c. search needs) (λ c. search needs) (λ c. search needs) returns)
+days-before-year-spec = call.Tie.close (call.Tie.spec (search needs) (search needs) (search needs) returns)

@@ -28,14 +28,5 @@ returns c =
 pub days-of-date-spec : {M : Type 1} → call.Statement.statement M
 days-of-date-spec =
     call.Tie.close
-    (call.Tie.spec
-    (λ c κs. search needs)
-    (λ c. search needs)
-    (λ c κs. search needs)
-    (λ c κs. search needs)
-    (λ c κs. search needs)
-    (λ c. search needs)
-    (λ c. search needs)
-    (λ c. search needs)
-    (λ c κs. search needs)
-    returns)
+    (call.Tie.spec (search needs) (search needs) (search needs) (search needs) (search needs) (search needs)
+    (search needs) (search needs) (search needs) returns)

@@ -15,5 +15,4 @@ returns-2 c =
     record { year-is = rw late; month-is = rw late; year-most = omega arith; month-most = omega arith }
 
 pub from-march-spec : {M : Type 1} → call.Statement.statement M
-from-march-spec =
-    call.Tie.close (call.Tie.spec (λ c. search needs) (λ c. search needs) (λ c. search needs) returns returns-2)
+from-march-spec = call.Tie.close (call.Tie.spec (search needs) (search needs) (search needs) returns returns-2)

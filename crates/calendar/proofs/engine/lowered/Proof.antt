@@ -24,4 +24,4 @@ returns : call.Tie.Need-returns
 returns c = toZ-ofZ (sub-result c) ∙ read c
 
 pub lowered-spec : {M : Type 1} → call.Statement.statement M
-lowered-spec = call.Tie.close (call.Tie.spec (λ c. search needs) sub-result returns)
+lowered-spec = call.Tie.close (call.Tie.spec (search needs) sub-result returns)

@@ -7,4 +7,6 @@ returns : call.Tie.Need-returns
 returns c = held (c .args .day)
 
 pub year-holding-spec : {M : Type 1} → call.Statement.statement M
-year-holding-spec = call.Tie.close (call.Tie.spec (λ c. search needs) (λ c. search needs) (λ c. search needs) (λ c. search needs) (λ c. search needs) (λ c. search needs) returns)
+year-holding-spec =
+    call.Tie.close
+    (call.Tie.spec (search needs) (search needs) (search needs) (search needs) (search needs) (search needs) returns)
