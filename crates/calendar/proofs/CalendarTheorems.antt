@@ -4,9 +4,8 @@ use mathlib.Core.Path.{_≡_, refl, ap, sym, _∙_}
 use Prim.Native.Nat.{zero, suc}
 use lib.IntN.{ℤ, pos, negsuc, sucℤ, predℤ}
 use Rattle.calendar.specs.Calendar.{Date, daysIn, next, prev, unixEpoch, dateOf}
-use Rattle.calendar.proofs.RealDates.{Real}
 use Rattle.calendar.specs.Formula.{dayOf, era, yoe, doy, doe, formula}
-use Rattle.calendar.proofs.RealDates.{real}
+use Rattle.calendar.proofs.RealDates.{Real, real}
 use Rattle.calendar.proofs.DayByDay.{next-real, prev-real, next-prev, prev-next}
 use Rattle.calendar.proofs.DaySteps.{next-day, prev-day, day-zero}
 

@@ -11,7 +11,7 @@ use Rattle.calendar.specs.Calendar.{on, leap, daysIn, dateOf}
 use Rattle.calendar.proofs.RealDates.{Real}
 use Rattle.calendar.specs.Formula.{dayOf, fromMarch, monthStart}
 use Rattle.calendar.specs.March.{daysInYears, marchOf, InYear, InMonth}
-use Rattle.calendar.proofs.MarchYears.{year-length, at-most-366}
+use Rattle.calendar.proofs.MarchYears.{year-ending, at-most-366}
 use Rattle.calendar.proofs.Months.{start, month-length, february}
 use Rattle.calendar.proofs.Eras.{counted}
 use Rattle.calendar.proofs.CalendarTheorems.{date-of-day}
@@ -21,14 +21,6 @@ within-366 z y k h = sums (daysInYears y) (daysInYears (suc y)) (h .begun) (h .a
   where
     sums : (a b : ℕ) → a + k ≡ z → z < b → b ≤ a + 366 → k < 366
     sums a b e l m = omega arith
-
--- the last year is as long as the rule says
-year-ending : (n : ℕ) → 1 ≤ n → daysInYears n ≡ daysInYears (n - 1) + cond (leap (pos n)) 366 365
-year-ending n low =
-    subst (λ (j : ℕ). daysInYears j ≡ daysInYears (n - 1) + cond (leap (pos j)) 366 365) again (year-length (n - 1))
-  where
-    again : suc (n - 1) ≡ n
-    again = omega arith
 
 -- day k, counted from a start s, of d days
 counts-to : (k s d t : ℕ) → s ≤ k → k < t → t ≡ s + d → k - s + 1 ≤ d

@@ -3,6 +3,7 @@ use mathlib.Core.Path.{_≡_, refl, ap, sym, _∙_}
 use mathlib.Core.Bool.{Bool}
 use Prim.Native.Nat.{ℕ, _+_, _-_, _<_}
 use native.Mathlib.Omega.{arith}
+use native.Mathlib.Nat.{add-sub-cancel}
 use native.Mathlib.Decide.{decLt}
 use borrow.Author.Tests.{lt-ltb, le-ltb}
 use lib.IntN.{ℤ, sucℤ, predℤ, suc-pred, pred-suc}
@@ -62,41 +63,27 @@ module _ (d : Date) (r : Real d) where
 
   pub next-real : Real (next d)
   next-real =
-      after Real y m (d .day) r
-      (λ h. record { month-from = r .month-from; month-to = r .month-to; day-from = omega arith; day-to = omega arith })
-      (λ h k. record { month-from = omega arith; month-to = omega arith; day-from = omega arith; day-to = has-a-day (leap y) (m + 1) (omega arith) })
-      (λ h k. record { month-from = omega arith; month-to = omega arith; day-from = omega arith; day-to = has-a-day (leap (sucℤ y)) 1 (omega arith) })
+      after Real y m (d .day) r (λ h. omega arith) (λ h k. omega (arith, has-a-day (leap y) (m + 1) (omega arith)))
+      (λ h k. omega (arith, has-a-day (leap (sucℤ y)) 1 (omega arith)))
 
   pub prev-real : Real (prev d)
   prev-real =
-      before Real y m (d .day) r
-      (λ h. record {
-        month-from =
-            r .month-from;
-        month-to = r .month-to;
-        day-from = omega arith;
-        day-to = omega (arith, r .day-to);
-      })
-      (λ h k. record {
-        month-from = omega arith;
-        month-to = omega (arith, r .month-to);
-        day-from = has-a-day (leap y) (m - 1)
-            (omega (arith, r .month-to));
-        day-to = omega arith;
-      })
-      (λ h k. record { month-from = omega arith; month-to = omega arith; day-from = omega arith; day-to = omega (arith, december (leap (predℤ y))) })
+      before Real y m (d .day) r (λ h. omega (arith, r .day-to))
+      (λ h k. omega (arith, r .month-to, has-a-day (leap y) (m - 1) (omega (arith, r .month-to))))
+      (λ h k. omega (arith, december (leap (predℤ y))))
 
   pub next-prev : next (prev d) ≡ d
   unfolding next
   next-prev =
       before (λ e. next e ≡ d) y m (d .day) r
       (λ h. rw (lt-ltb (d .day - 1) (monthLength y m) (omega (arith, r .day-to))) (ap (on y m) (omega arith)))
-      (λ h k. rw (
-        le-ltb (monthLength y (m - 1)) (monthLength y (m - 1)) (omega arith),
-        lt-ltb (m - 1) 12
-            (omega (arith, r .month-to)),
-      ) (λ i. on y (back k i) (sym h i)))
-      (λ h k. rw (le-ltb 31 (monthLength (predℤ y) 12) (omega (arith, december (leap (predℤ y))))) (λ i. on (suc-pred y i) (sym k i) (sym h i)))
+      (λ h k.
+      let last = monthLength y (m - 1) in
+      rw (le-ltb last last (omega arith), lt-ltb (m - 1) 12 (omega (arith, r .month-to)))
+      (λ i. on y (back k i) (sym h i)))
+      (λ h k.
+      rw (le-ltb 31 (monthLength (predℤ y) 12) (omega (arith, december (leap (predℤ y)))))
+      (λ i. on (suc-pred y i) (sym k i) (sym h i)))
     where
       back : 1 < m → m - 1 + 1 ≡ m
       back h = omega arith
@@ -106,8 +93,6 @@ module _ (d : Date) (r : Real d) where
   prev-next =
       after (λ e. prev e ≡ d) y m (d .day) r
       (λ h. rw (lt-ltb 1 (d .day + 1) (omega (arith, r .day-from))) (ap (on y m) (omega arith)))
-      (λ h k. rw (lt-ltb 1 (m + 1) (omega (arith, r .month-from))) (ap (λ (n : ℕ). on y n (monthLength y n)) same ∙ ap (on y m) (sym h)))
+      (λ h k.
+      rw (lt-ltb 1 (m + 1) (omega (arith, r .month-from)), add-sub-cancel m 1) (ap (on y m) (sym h)))
       (λ h k. λ i. on (pred-suc y i) (sym k i) (sym h i))
-    where
-      same : m + 1 - 1 ≡ m
-      same = omega arith

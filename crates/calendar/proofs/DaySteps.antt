@@ -1,7 +1,7 @@
 -- From one date of the calendar to the next the formula's day goes up by one, and only 1970-01-01 is day 0.
 use mathlib.Core.Path.{_≡_, refl, ap, sym, _∙_, subst}
 use mathlib.Core.Logic.{_≢_}
-use mathlib.Core.Bool.{Bool, cond}
+use mathlib.Core.Bool.{Bool}
 use Prim.Native.Nat.{ℕ, suc, _+_, _-_, _*_, _≤_, _<_}
 use native.Mathlib.Omega.{arith}
 use native.Mathlib.Decide.{ℕ-discrete, decLt}
@@ -13,7 +13,7 @@ use Rattle.calendar.proofs.RealDates.{Real}
 use Rattle.calendar.specs.Formula.{dayOf, formula, fromMarch, monthStart}
 use Rattle.calendar.specs.March.{daysInYears, marchOf, epochNumber}
 use Rattle.calendar.proofs.Sums.{one-more, is-natural}
-use Rattle.calendar.proofs.MarchYears.{year-length}
+use Rattle.calendar.proofs.MarchYears.{year-ending}
 use Rattle.calendar.proofs.Months.{start, month-length, february, in-year, january}
 use Rattle.calendar.proofs.Eras.{Above, above, same-leap, dayNumber, counted}
 use Rattle.calendar.proofs.DayByDay.{after, prev-real, next-prev}
@@ -28,21 +28,10 @@ module _ (n : ℕ) (low : 1 ≤ n) where
 
   -- from the last of February to 1 March
   march : dayNumber n 3 1 ≡ dayNumber n 2 (daysIn (leap (pos n)) 2) + 1
-  march = by-leap (leap (pos n)) (february (leap (pos n))) length-before
+  march = sums (daysInYears n) (daysInYears (n - 1)) _ _ (february (leap (pos n))) (year-ending n low)
     where
-      again : suc (n - 1) ≡ n
-      again = omega arith
-
-      length-before : daysInYears n ≡ daysInYears (n - 1) + cond (leap (pos n)) 366 365
-      length-before = subst (λ (k : ℕ). daysInYears k ≡ daysInYears (n - 1) + cond (leap (pos k)) 366 365) again (year-length (n - 1))
-
       sums : (a b d k : ℕ) → 337 + d ≡ k → a ≡ b + k → a + (0 + 1) ≡ b + (337 + d) + 1
       sums a b d k e f = omega arith
-
-      by-leap : (l : Bool) → monthStart 11 + daysIn l 2 ≡ cond l 366 365
-          → daysInYears n ≡ daysInYears (n - 1) + cond l 366 365
-          → dayNumber n 3 1 ≡ dayNumber n 2 (daysIn l 2) + 1
-      by-leap l e f = sums (daysInYears n) (daysInYears (n - 1)) (daysIn l 2) (cond l 366 365) e f
 
   month-on : (m : ℕ) → 1 ≤ m → m < 12 → dayNumber n (m + 1) 1 ≡ dayNumber n m (daysIn (leap (pos n)) m) + 1
   month-on m from to = by-month (ℕ-discrete m 2)

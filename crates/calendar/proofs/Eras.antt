@@ -1,15 +1,14 @@
 -- Every year is a natural year less so many eras of 400 years, and neither the calendar nor the formula tells eras
 -- apart. So a day of any year is counted in naturals.
-use Prim.Native.Nat.{ℕ, zero, suc, _+_, _-_, _*_, _/_, _%_, _≤_, _<_}
+use Prim.Native.Nat.{ℕ, zero, suc, _+_, _-_, _*_, _/_, _%_, _≤_}
 use mathlib.Core.Path.{_≡_, refl, ap, sym, _∙_}
-use mathlib.Core.Logic.{_⊎_, inl, inr}
+use mathlib.Core.Logic.{_↔_}
 use mathlib.Core.Bool.{Bool, true, false, not, _&&_, _||_, cond}
 use native.Mathlib.Omega.{arith}
-use native.Mathlib.Decide.{decLt}
 use lib.Dec.{eqb, ltb, eqb·suc-zero}
 use lib.IntN.{ℤ, pos, negsuc, negℤ, predℤ, subℕ, _+ℤ_, _-ℤ_, _*ℤ_}
 use lib.Signed.{quotZ}
-use Rattle.counts.proofs.Difference.{not-below, below, same, of-naturals, less}
+use Rattle.counts.proofs.Difference.{not-below, below, by-order, same, of-naturals, less}
 use Rattle.calendar.specs.Calendar.{leap}
 use Rattle.calendar.specs.Formula.{fromMarch, marchYear, era, yoe, doy, doe, monthStart, formula}
 use Rattle.calendar.specs.March.{daysInYears, marchOf, epochNumber, liftEras, Lifted}
@@ -24,54 +23,44 @@ pub record Above (y : ℤ) : Type 0 where
   pub low : 1 ≤ years
 
 pub above : (y : ℤ) → Above y
-above (pos a) =
-    record {
-      years =
-          a + 400;
-      eras = 1;
-      is = sym (not-below (a + 400) 400 (omega arith) ∙ ap pos (omega arith));
-      low = omega arith;
-    }
-above (negsuc a) =
-    record {
-      years = 399 * suc a + 400;
-      eras = suc a + 1;
-      is = sym (below (399 * suc a + 400) (400 * (suc a + 1)) (omega arith) ∙ ap negsuc (omega arith));
-      low = omega arith;
-    }
+above (pos a) = record {
+  years = a + 400;
+  eras = 1;
+  is = sym (not-below (a + 400) 400 (omega arith) ∙ ap pos (omega arith));
+  low = omega arith;
+}
+above (negsuc a) = record {
+  years = 399 * suc a + 400;
+  eras = suc a + 1;
+  is = sym (below (399 * suc a + 400) (400 * (suc a + 1)) (omega arith) ∙ ap negsuc (omega arith));
+  low = omega arith;
+}
 
 -- ---- leap years
-zero-alike : (a b : ℕ) → (a ≡ 0 → b ≡ 0) → (b ≡ 0 → a ≡ 0) → eqb a 0 ≡ eqb b 0
-zero-alike zero zero p q = refl
-zero-alike zero (suc b) p q = let e : suc b ≡ 0 = p refl in absurd (omega arith)
-zero-alike (suc a) zero p q = let e : suc a ≡ 0 = q refl in absurd (omega arith)
-zero-alike (suc a) (suc b) p q = eqb·suc-zero a ∙ sym (eqb·suc-zero b)
+zero-alike : (a b : ℕ) → (a ≡ 0) ↔ (b ≡ 0) → eqb a 0 ≡ eqb b 0
+zero-alike zero zero h = refl
+zero-alike zero (suc b) h = let e : suc b ≡ 0 = h .0 refl in absurd (omega arith)
+zero-alike (suc a) zero h = let e : suc a ≡ 0 = h .1 refl in absurd (omega arith)
+zero-alike (suc a) (suc b) h = eqb·suc-zero a ∙ sym (eqb·suc-zero b)
 
-module _ (n e : ℕ) where
-  -- 400 divides the sum or the difference of the two years
-  alike : (a : ℕ) → (a + n ≡ 400 * e) ⊎ (a + 400 * e ≡ n) → leap (pos a) ≡ leap (pos n)
-  alike a h = λ i. fourth h i && (not (hundredth h i) || era-first h i)
-    where
-      fourth : (a + n ≡ 400 * e) ⊎ (a + 400 * e ≡ n) → eqb (a % 4) 0 ≡ eqb (n % 4) 0
-      fourth (inl s) = zero-alike (a % 4) (n % 4) (λ z. omega arith) (λ z. omega arith)
-      fourth (inr s) = zero-alike (a % 4) (n % 4) (λ z. omega arith) (λ z. omega arith)
+leap-alike : (a n : ℕ) → (a % 4 ≡ 0) ↔ (n % 4 ≡ 0) → (a % 100 ≡ 0) ↔ (n % 100 ≡ 0) → (a % 400 ≡ 0) ↔ (n % 400 ≡ 0)
+    → leap (pos a) ≡ leap (pos n)
+leap-alike a n p q r =
+    λ i. zero-alike (a % 4) (n % 4) p i &&
+    (not (zero-alike (a % 100) (n % 100) q i) || zero-alike (a % 400) (n % 400) r i)
 
-      hundredth : (a + n ≡ 400 * e) ⊎ (a + 400 * e ≡ n) → eqb (a % 100) 0 ≡ eqb (n % 100) 0
-      hundredth (inl s) = zero-alike (a % 100) (n % 100) (λ z. omega arith) (λ z. omega arith)
-      hundredth (inr s) = zero-alike (a % 100) (n % 100) (λ z. omega arith) (λ z. omega arith)
-
-      era-first : (a + n ≡ 400 * e) ⊎ (a + 400 * e ≡ n) → eqb (a % 400) 0 ≡ eqb (n % 400) 0
-      era-first (inl s) = zero-alike (a % 400) (n % 400) (λ z. omega arith) (λ z. omega arith)
-      era-first (inr s) = zero-alike (a % 400) (n % 400) (λ z. omega arith) (λ z. omega arith)
-
-  pub same-leap : leap (subℕ n (400 * e)) ≡ leap (pos n)
-  same-leap = by-order (decLt n (400 * e))
-    where
-      by-order : Dec (n < 400 * e) → leap (subℕ n (400 * e)) ≡ leap (pos n)
-      by-order (yes l) = ap leap (below n (400 * e) l) ∙ alike (suc (400 * e - suc n)) (inl (omega arith))
-      by-order (no g) =
-          let h : 400 * e ≤ n = omega (arith, g) in
-          ap leap (not-below n (400 * e) h) ∙ alike (n - 400 * e) (inr (omega arith))
+-- 400 divides the sum or the difference of the two years
+pub same-leap : (n e : ℕ) → leap (subℕ n (400 * e)) ≡ leap (pos n)
+same-leap n e =
+    by-order (λ z. leap z ≡ leap (pos n)) n (400 * e)
+    (λ l.
+    let a = suc (400 * e - suc n) in
+    let s : a + n ≡ 400 * e = omega arith in
+    leap-alike a n (omega arith) (omega arith) (omega arith))
+    (λ h.
+    let a = n - 400 * e in
+    let s : a + 400 * e ≡ n = omega arith in
+    leap-alike a n (omega arith) (omega arith) (omega arith))
 
 -- ---- the formula
 era-onward : (a : ℕ) → era (pos a) ≡ pos (a / 400)
@@ -91,16 +80,10 @@ dayNumber n m d = daysInYears (marchOf n m) + (monthStart (fromMarch m) + d)
 
 module _ (n e : ℕ) where
   same-era : era (subℕ n (400 * e)) ≡ subℕ (n / 400) e
-  same-era = by-order (decLt n (400 * e))
-    where
-      by-order : Dec (n < 400 * e) → era (subℕ n (400 * e)) ≡ subℕ (n / 400) e
-      by-order (yes l) =
-          ap era (below n (400 * e) l) ∙ era-back (400 * e - suc n)
-          ∙ sym (below (n / 400) e (omega arith) ∙ ap negsuc (omega arith))
-      by-order (no g) =
-          let h : 400 * e ≤ n = omega (arith, g) in
-          ap era (not-below n (400 * e) h) ∙ era-onward (n - 400 * e)
-          ∙ sym (not-below (n / 400) e (omega arith) ∙ ap pos (omega arith))
+  same-era =
+      by-order (λ z. era z ≡ subℕ (n / 400) e) n (400 * e)
+      (λ l. era-back (400 * e - suc n) ∙ sym (below (n / 400) e (omega arith) ∙ ap negsuc (omega arith)))
+      (λ h. era-onward (n - 400 * e) ∙ sym (not-below (n / 400) e (omega arith) ∙ ap pos (omega arith)))
 
   same-yoe : yoe (subℕ n (400 * e)) ≡ pos (n % 400)
   unfolding yoe

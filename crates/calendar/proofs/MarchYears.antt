@@ -55,13 +55,18 @@ module _ (a : ℕ) where
   pub year-length : daysInYears (suc a) ≡ daysInYears a + cond (leap (pos (suc a))) 366 365
   year-length = by-rule _ _ _ refl refl refl
 
+-- the last year is as long as the rule says
+pub year-ending : (n : ℕ) → 1 ≤ n → daysInYears n ≡ daysInYears (n - 1) + cond (leap (pos n)) 366 365
+year-ending n low =
+    let again : suc (n - 1) ≡ n = omega arith in
+    subst (λ (j : ℕ). daysInYears j ≡ daysInYears (n - 1) + cond (leap (pos j)) 366 365) again (year-length (n - 1))
+
 pub at-most-366 : (a : ℕ) → daysInYears (suc a) ≤ daysInYears a + 366
-at-most-366 a = by-length (leap (pos (suc a))) (year-length a)
+at-most-366 a = by-length (leap (pos (suc a))) (daysInYears (suc a)) (daysInYears a) (year-length a)
   where
-    by-length : (l : Bool) → daysInYears (suc a) ≡ daysInYears a + cond l 366 365
-        → daysInYears (suc a) ≤ daysInYears a + 366
-    by-length true e = omega arith
-    by-length false e = omega arith
+    by-length : (l : Bool) (n m : ℕ) → n ≡ m + cond l 366 365 → n ≤ m + 366
+    by-length true n m e = omega arith
+    by-length false n m e = omega arith
 
 -- ---- by eras and the years of an era
 pub of-era : (y : ℕ) → daysInYears y ≡ y / 400 * 146097 + (y % 400 * 365 + y % 400 / 4 - y % 400 / 100)

@@ -3,10 +3,9 @@ use mathlib.Core.Path.{_≡_, refl, sym, ap, _∙_}
 use Prim.Native.Nat.{ℕ, zero, suc, _+_, _-_, _*_, _≤_, _<_}
 use native.Mathlib.Omega.{arith}
 use native.Mathlib.Nat.{add-mul}
-use native.Mathlib.Decide.{decLt}
 use lib.Signed.{mag}
 use lib.IntN.{ℤ, pos, negsuc, negℤ, sucℤ, predℤ, subℕ, _+ℤ_, _-ℤ_, _*ℤ_, +ℤ-one, -ℤ-one, natAbs, pos-ne-negsuc}
-use Rattle.counts.proofs.Difference.{not-below, below, same, plus, less}
+use Rattle.counts.proofs.Difference.{not-below, below, by-order, same, plus, less}
 
 pub one-more : (a b : ℕ) → sucℤ (subℕ a b) ≡ subℕ (a + 1) b
 one-more a b = sym (+ℤ-one (subℕ a b)) ∙ plus a b 1
@@ -20,58 +19,36 @@ minus zero = refl
 minus (suc n) = sym (below 0 (suc n) (omega arith) ∙ ap negsuc (omega arith))
 
 pub sum : (a b c d : ℕ) → subℕ a b +ℤ subℕ c d ≡ subℕ (a + c) (b + d)
-sum a b c d = by-order (decLt c d)
-  where
-    by-order : Dec (c < d) → subℕ a b +ℤ subℕ c d ≡ subℕ (a + c) (b + d)
-    by-order (yes l) = rw (below c d l) (less a b (suc (d - suc c)) ∙ same a _ (a + c) (b + d) (omega arith))
-    by-order (no n) =
-        let h : d ≤ c = omega (arith, n) in
-        rw (not-below c d h) (plus a b (c - d) ∙ same _ b (a + c) (b + d) (omega arith))
+sum a b c d =
+    by-order (λ z. subℕ a b +ℤ z ≡ subℕ (a + c) (b + d)) c d
+    (λ l. less a b (suc (d - suc c)) ∙ same a _ (a + c) (b + d) (omega arith))
+    (λ h. plus a b (c - d) ∙ same _ b (a + c) (b + d) (omega arith))
 
 pub turned : (a b : ℕ) → negℤ (subℕ a b) ≡ subℕ b a
-turned a b = by-order (decLt a b)
-  where
-    by-order : Dec (a < b) → negℤ (subℕ a b) ≡ subℕ b a
-    by-order (yes l) = rw (below a b l) (sym (not-below b a (omega arith) ∙ ap pos (omega arith)))
-    by-order (no n) =
-        let h : b ≤ a = omega (arith, n) in
-        rw (not-below a b h) (minus (a - b) ∙ same 0 (a - b) b a (omega arith))
+turned a b =
+    by-order (λ z. negℤ z ≡ subℕ b a) a b (λ l. sym (not-below b a (omega arith) ∙ ap pos (omega arith)))
+    (λ h. minus (a - b) ∙ same 0 (a - b) b a (omega arith))
 
 pub difference : (a b c d : ℕ) → subℕ a b -ℤ subℕ c d ≡ subℕ (a + d) (b + c)
 difference a b c d = ap (λ (z : ℤ). subℕ a b +ℤ z) (turned c d) ∙ sum a b d c
 
 pub times : (a b k : ℕ) → subℕ a b *ℤ pos k ≡ subℕ (a * k) (b * k)
-times a b k = by-order (decLt a b)
+times a b k =
+    by-order (λ z. z *ℤ pos k ≡ subℕ (a * k) (b * k)) a b
+    (λ l. minus (suc (b - suc a) * k)
+    ∙ same 0 (suc (b - suc a) * k) (a * k) (b * k) (omega (arith, split a (suc (b - suc a)) b (omega arith))))
+    (λ h. sym (not-below (a * k) (b * k) (omega (arith, split b (a - b) a (omega arith)))
+    ∙ ap pos (omega (arith, split b (a - b) a (omega arith)))))
   where
     split : (u v w : ℕ) → w ≡ u + v → w * k ≡ u * k + v * k
     split u v w e = ap (λ (x : ℕ). x * k) e ∙ add-mul u v k
 
-    by-order : Dec (a < b) → subℕ a b *ℤ pos k ≡ subℕ (a * k) (b * k)
-    by-order (yes l) =
-        rw (below a b l)
-        (minus (suc (b - suc a) * k) ∙ same 0 (suc (b - suc a) * k) (a * k) (b * k) (omega (arith, split a (suc (b - suc a)) b (omega arith))))
-    by-order (no n) =
-        let h : b ≤ a = omega (arith, n) in
-        rw (not-below a b h)
-        (sym (not-below (a * k) (b * k) (omega (arith, split b (a - b) a (omega arith))) ∙ ap pos (omega (arith, split b (a - b) a (omega arith)))))
-
 -- a difference that is not negative
 pub is-natural : (a b k : ℕ) → subℕ a b ≡ pos k → a ≡ b + k
-is-natural a b k e = by-order (decLt a b)
-  where
-    by-order : Dec (a < b) → a ≡ b + k
-    by-order (yes l) = absurd (pos-ne-negsuc k (b - suc a) (sym e ∙ below a b l))
-    by-order (no n) =
-        let h : b ≤ a = omega (arith, n) in
-        let f : a - b ≡ k = ap natAbs (sym (not-below a b h) ∙ e) in
-        omega arith
+is-natural a b k =
+    by-order (λ z. z ≡ pos k → a ≡ b + k) a b (λ l e. absurd (pos-ne-negsuc k (b - suc a) (sym e)))
+    (λ h e. omega (arith, ap natAbs e))
 
 -- a difference is no larger than what it is made of
 pub magnitude : (a b h : ℕ) → a < h → b < h → mag (subℕ a b) < h
-magnitude a b h k l = by-order (decLt a b)
-  where
-    by-order : Dec (a < b) → mag (subℕ a b) < h
-    by-order (yes o) = rw (below a b o) (omega arith)
-    by-order (no n) =
-        let o : b ≤ a = omega (arith, n) in
-        rw (not-below a b o) (omega arith)
+magnitude a b h k l = by-order (λ z. mag z < h) a b (λ o. omega arith) (λ o. omega arith)

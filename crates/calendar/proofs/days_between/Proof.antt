@@ -18,11 +18,7 @@ read c =
     (toZ-ofZ {w = w64} (record { sfits = c .days-of-date2 .ok }) ∙ c .days-of-date2 .ensures) i
 
 sub-result : call.Tie.Need-sub-result
-sub-result c =
-    let a = c .before .before .args in
-    subst (SFits w64) (sym (read c)) (days-fit (apart (dateIn (a .from)) (dateIn (a .to))
-    (record { year = omega arith; month = omega arith; day = omega arith })
-    (record { year = omega arith; month = omega arith; day = omega arith })))
+sub-result c = subst (SFits w64) (sym (read c)) (days-fit (apart _ _ (omega arith) (omega arith)))
 
 returns : call.Tie.Need-returns
 returns c = toZ-ofZ (sub-result c) ∙ read c

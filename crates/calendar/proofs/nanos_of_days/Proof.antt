@@ -1,8 +1,6 @@
 -- Days that are too far back or on have no nanoseconds of 64 bits, and the others do.
-use mathlib.Core.Path.{_≡_, sym, ap, subst, _∙_}
-use mathlib.Core.Bool.{true, false}
-use lib.IntN.{ℤ, pos, negsuc, _*ℤ_}
-use lib.Signed.{ltZ}
+use mathlib.Core.Path.{_≡_, ap, _∙_}
+use lib.IntN.{ℤ, pos, _*ℤ_}
 use mir.Syntax.{w64}
 use mir.Val.{SFits, toZ, ofZ}
 use mir.Facts.{toZ-ofZ}
@@ -16,25 +14,20 @@ read s = toZ-ofZ (s .fits .days)
 module _ (c : call.Tie.Else2) where
   in-reach : Near (c .before .before .args .days)
   in-reach =
-      near (c .before .before .args .days) (subst (λ (z : ℤ). ltZ z (negsuc 106750) ≡ false) (read (c .before .before))
-      (c .before .if1 .left)) (subst (λ (z : ℤ). ltZ (pos 106751) z ≡ false) (read (c .before .before)) (c .if2 .left))
+      near _ (rw (read (c .before .before)) at (c .before .if1 .left)) (rw (read (c .before .before)) at (c .if2 .left))
 
   fits : SFits w64 (toZ w64 (ofZ w64 (c .before .before .args .days)) *ℤ pos 86400000000000)
-  fits = subst (λ (z : ℤ). SFits w64 (z *ℤ pos 86400000000000)) (sym (read (c .before .before))) (record { sfits = in-reach .fits })
-
-mul-t8 : call.Tie.Need-mul-t8
-mul-t8 c = fits c
+  fits = rw (read (c .before .before)) (record { sfits = in-reach .fits })
 
 returns : call.Tie.Need-returns
-returns c = too-far-back (c .before .args .days) (subst (λ (z : ℤ). ltZ z (negsuc 106750) ≡ true) (read (c .before)) (c .if1 .taken))
+returns c = too-far-back (c .before .args .days) (rw (read (c .before)) at (c .if1 .taken))
 
 returns-2 : call.Tie.Need-returns-2
-returns-2 c = too-far-on (c .before .before .args .days) (subst (λ (z : ℤ). ltZ (pos 106751) z ≡ true) (read (c .before .before)) (c .if2 .taken))
+returns-2 c = too-far-on (c .before .before .args .days) (rw (read (c .before .before)) at (c .if2 .taken))
 
 returns-3 : call.Tie.Need-returns-3
 returns-3 c =
-    ap (λ (z : ℤ). answered z) (toZ-ofZ (fits c) ∙ ap (λ (z : ℤ). z *ℤ pos 86400000000000) (read (c .before .before)))
-    ∙ in-reach c .is
+    ap answered (toZ-ofZ (fits c) ∙ ap (λ (z : ℤ). z *ℤ pos 86400000000000) (read (c .before .before))) ∙ in-reach c .is
 
 pub nanos-of-days-spec : {M : Type 1} → call.Statement.statement M
-nanos-of-days-spec = call.Tie.close (call.Tie.spec mul-t8 returns returns-2 returns-3)
+nanos-of-days-spec = call.Tie.close (call.Tie.spec fits returns returns-2 returns-3)

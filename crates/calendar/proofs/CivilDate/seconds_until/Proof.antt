@@ -23,8 +23,7 @@ module _ (c : call.Tie.After-known-told) where
   between : Apart (daysBetween (dateIn (start .args .self)) (dateIn (start .args .other)))
   between =
       apart (dateIn (start .args .self)) (dateIn (start .args .other))
-      (record { year = omega arith; month = omega arith; day = omega arith })
-      (record { year = omega arith; month = omega arith; day = omega arith })
+      (omega arith) (omega arith)
 
   read : toZ w64 (ofZ w64 (c .before .days .given .0 .0)) *ℤ pos 86400 ≡ daysBetween (dateIn (start .args .self))
       (dateIn (start .args .other)) *ℤ pos 86400
@@ -34,17 +33,14 @@ module _ (c : call.Tie.After-known-told) where
   fits : SFits w64 (toZ w64 (ofZ w64 (c .before .days .given .0 .0)) *ℤ pos 86400)
   fits = subst (SFits w64) (sym read) (seconds-fit between)
 
-mul-t7 : call.Tie.Need-mul-t7
-mul-t7 c = fits c
-
 returns : call.Tie.Need-returns
 returns c = ap (λ (z : ℤ). answered z) (toZ-ofZ (fits c) ∙ read c) ∙ spans c .gives _
 
 returns-2 : call.Tie.Need-returns-2
 returns-2 c =
     let s = c .before .before .before in
-    refuses (dateIn (s .before .args .self)) (dateIn (s .before .args .other)) _ (ap spanIn (sym (c .before .r .given .1)) ∙ s .days-until .ensures) _
+    refuses (dateIn (s .before .args .self)) (dateIn (s .before .args .other)) _
+    (ap spanIn (sym (c .before .r .given .1)) ∙ s .days-until .ensures) _
 
 pub seconds-until-spec : {M : Type 1} → call.Statement.statement M
-seconds-until-spec =
-    call.Tie.close (call.Tie.spec (search needs) (search needs) mul-t7 (search needs) returns returns-2)
+seconds-until-spec = call.Tie.close (call.Tie.spec (search needs) (search needs) fits (search needs) returns returns-2)

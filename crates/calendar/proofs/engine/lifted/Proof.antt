@@ -1,11 +1,9 @@
 -- A year of 32 bits and 2,147,484,000 make a number that is not negative and far below 2 ^ 63.
 use mathlib.Core.Path.{_≡_, sym, ap, subst, _∙_}
 use native.Mathlib.Omega.{arith}
-use lib.Dec.{T}
 use lib.IntN.{ℤ, pos, natAbs, _+ℤ_}
-use lib.Signed.{nonNeg}
 use mir.Syntax.{w32, w64}
-use mir.Val.{Fits, SFits, toZ, ofZ}
+use mir.Val.{SFits, toZ, ofZ}
 use mir.Facts.{toZ-ofZ}
 use Rattle.counts.proofs.Signed.{widens, widened}
 use Rattle.calendar.specs.March.{Lifted}
@@ -28,24 +26,11 @@ module _ (c : call.Tie.Start) where
   read : toZ w64 (ofZ w64 added) ≡ pos (up .by)
   read = toZ-ofZ fits ∙ sum
 
-cast-result : call.Tie.Need-cast-result
-cast-result c = widens tt (c .fits .year)
-
-add-result : call.Tie.Need-add-result
-add-result c = fits c
-
-cast-result-2 : call.Tie.Need-cast-result-2
-cast-result-2 c =
-    subst (λ (z : ℤ). T (nonNeg z) × Fits w64 (natAbs z)) (sym (read c)) (
-      tt,
-      record {
-        fits =
-            omega (arith, up c .lifted .high);
-      },
-    )
-
 returns : call.Tie.Need-returns
 returns c = subst (λ (z : ℤ). Lifted (c .args .year) (natAbs z)) (sym (read c)) (up c .lifted)
 
 pub lifted-spec : {M : Type 1} → call.Statement.statement M
-lifted-spec = call.Tie.close (call.Tie.spec cast-result add-result cast-result-2 returns)
+lifted-spec =
+    call.Tie.close
+    (call.Tie.spec (λ c. widens tt (c .fits .year)) fits
+    (λ c. rw (read c) (tt, record { fits = omega (arith, up c .lifted .high) })) returns)
