@@ -55,6 +55,8 @@ pub january : (l : Bool) (m d : ℕ) → m ≤ 12 → 1 ≤ d → d ≤ daysIn l
 unfolding daysIn
 january l m d to low high e =
     ⊎-elim (eqb→eq m 1)
-    (λ t. ⊎-elim (λ u. absurd (omega (arith, leb→le (start m + daysIn l m) 306 u)))
-    (λ u. absurd (omega (arith, leb→le 307 (start m) u))) (or-yes (leb (start m + daysIn l m) 306) (leb 307 (start m)) t))
+    (λ t.
+    ⊎-elim (λ u. absurd (omega (arith, leb→le (start m + daysIn l m) 306 u)))
+    (λ u. absurd (omega (arith, leb→le 307 (start m) u)))
+    (or-yes (leb (start m + daysIn l m) 306) (leb 307 (start m)) t))
     (or-yes (eqb m 1) (aside l m) (by-month (λ l m. eqb m 1 || aside l m) tt tt l m to))

@@ -21,14 +21,13 @@ module _ (c : call.Tie.After-known-told) where
   spans = given _ _ _ (ap spanIn (sym (c .before .days .given .1)) ∙ c .before .before .before .days-until .ensures)
 
   between : Apart (daysBetween (dateIn (start .args .self)) (dateIn (start .args .other)))
-  between =
-      apart (dateIn (start .args .self)) (dateIn (start .args .other))
-      (omega arith) (omega arith)
+  between = apart (dateIn (start .args .self)) (dateIn (start .args .other)) (omega arith) (omega arith)
 
   read : toZ w64 (ofZ w64 (c .before .days .given .0 .0)) *ℤ pos 86400 ≡ daysBetween (dateIn (start .args .self))
       (dateIn (start .args .other)) *ℤ pos 86400
   read =
-      ap (λ (z : ℤ). z *ℤ pos 86400) (toZ-ofZ {w = w64} (subst (SFits w64) (sym (spans .days)) (days-fit between)) ∙ spans .days)
+      ap (λ (z : ℤ). z *ℤ pos 86400)
+      (toZ-ofZ {w = w64} (subst (SFits w64) (sym (spans .days)) (days-fit between)) ∙ spans .days)
 
   fits : SFits w64 (toZ w64 (ofZ w64 (c .before .days .given .0 .0)) *ℤ pos 86400)
   fits = subst (SFits w64) (sym read) (seconds-fit between)
