@@ -51,17 +51,16 @@ module _ (s : List ℕ) (formed : within first last s ≡ true) where
     same-digits = rw part-length at (digits-of-value (take k (drop at s)) all-digits)
 
   pub fits : Fits (fieldsAt s)
-  fits =
-      record {
-        natural = refl;
-        year = below 4 0 refl refl;
-        month = below 2 5 refl refl;
-        day = below 2 8 refl refl;
-        hour = below 2 11 refl refl;
-        minute = below 2 14 refl refl;
-        second = below 2 17 refl refl;
-        nanos = below 9 20 refl refl;
-      }
+  fits = record {
+    natural = refl;
+    year = below 4 0 refl refl;
+    month = below 2 5 refl refl;
+    day = below 2 8 refl refl;
+    hour = below 2 11 refl refl;
+    minute = below 2 14 refl refl;
+    second = below 2 17 refl refl;
+    nanos = below 9 20 refl refl;
+  }
 
 -- a number in k digits, and the mark stored after it
 pub marked : {x : List ℕ} (out : List ℕ) (at k n mark : ℕ) → x ≡ sets out at (inDigits k n)

@@ -61,28 +61,21 @@ the-mark mark l h (b ∷ s) e =
     ap (λ (x : ℕ). x ∷ s) (omega arith)
 
 module _ (s : List ℕ) (formed : within first last s ≡ true) where
-  -- the bytes from a field on are its number in digits, its mark, and the rest
-  piece : (k at mark : ℕ) (l h : List ℕ) → take k (drop at first) ≡ replicate k 48
-      → take k (drop at last) ≡ replicate k 57
-      → drop (at + k) first ≡ mark ∷ l → drop (at + k) last ≡ mark ∷ h
-      → drop at s ≡ field k (valueOf (take k (drop at s))) mark ++ drop (at + k + 1) s
-  piece k at mark l h zeros nines low high =
-      let rest = rw (low, high) at (rest-within (at + k) first last s formed) in
-      let marked = rw (drop-drop 1 (at + k) s) at (the-mark mark l h (drop (at + k) s) rest) in
-      rw (append-assoc, same-digits s formed k at zeros nines, ← marked, ← drop-drop k at s)
-      (sym (take-append-drop k (drop at s)))
+  -- a number in digits, its mark and the rest are the bytes from its place on
+  piece : (k at mark : ℕ) → take k (drop at first) ≡ replicate k 48 → take k (drop at last) ≡ replicate k 57
+      → drop (at + k) first ≡ mark ∷ drop (at + k + 1) first → drop (at + k) last ≡ mark ∷ drop (at + k + 1) last
+      → {rest : List ℕ} → rest ≡ drop (at + k + 1) s → field k (valueOf (take k (drop at s))) mark ++ rest ≡ drop at s
+  piece k at mark zeros nines low high e =
+      let after = rw (low, high) at (rest-within (at + k) first last s formed) in
+      let marked = the-mark mark (drop (at + k + 1) first) (drop (at + k + 1) last) (drop (at + k) s) after in
+      let digits = same-digits s formed k at zeros nines in
+      rw (append-assoc, e, digits, ← drop-drop 1 (at + k) s, ← marked, ← drop-drop k at s)
+      (take-append-drop k (drop at s))
 
   -- writing what was read gives the bytes
   pub read-writes : written (fieldsAt s) ≡ s
   read-writes =
-      let f = fieldsAt s in
       let end : drop 30 s ≡ [] = drop-of-length-le s {i = 30} (omega (arith, long s formed)) in
-      sym
-      (piece 4 0 45 (drop 5 first) (drop 5 last) refl refl refl refl
-      ∙ ap (λ (t : List ℕ). field 4 (natAbs (f .year)) 45 ++ t) (piece 2 5 45 (drop 8 first) (drop 8 last) refl refl refl refl
-      ∙ ap (λ (t : List ℕ). field 2 (f .month) 45 ++ t) (piece 2 8 84 (drop 11 first) (drop 11 last) refl refl refl refl
-      ∙ ap (λ (t : List ℕ). field 2 (f .day) 84 ++ t) (piece 2 11 58 (drop 14 first) (drop 14 last) refl refl refl refl
-      ∙ ap (λ (t : List ℕ). field 2 (f .hour) 58 ++ t) (piece 2 14 58 (drop 17 first) (drop 17 last) refl refl refl refl
-      ∙ ap (λ (t : List ℕ). field 2 (f .minute) 58 ++ t) (piece 2 17 46 (drop 20 first) (drop 20 last) refl refl refl refl
-      ∙ ap (λ (t : List ℕ). field 2 (f .second) 46 ++ t) (piece 9 20 90 [] [] refl refl refl refl
-      ∙ ap (λ (t : List ℕ). field 9 (f .nanos) 90 ++ t) end)))))))
+      piece 4 0 45 refl refl refl refl (piece 2 5 45 refl refl refl refl (piece 2 8 84 refl refl refl refl
+      (piece 2 11 58 refl refl refl refl (piece 2 14 58 refl refl refl refl (piece 2 17 46 refl refl refl refl
+      (piece 9 20 90 refl refl refl refl (sym end)))))))

@@ -1,10 +1,10 @@
 -- `next_end`. The invariant: no byte from `at` to `i` ends a line.
-use mathlib.Core.Path.{_≡_, ap}
+use mathlib.Core.Path.{ap}
 use Prim.Native.Nat.{_-_}
 use native.Mathlib.Omega.{arith}
 use borrow.Author.Needs.{needs}
 use denote.Ref.{now}
-use lib.ListN.{length, drop, drop-of-length-le}
+use lib.ListN.{length, drop-of-length-le}
 use Rattle.lines.specs.Pieces.{untilEnd, NoEndBetween}
 use Rattle.lines.proofs.LineEnds.{found, passed}
 use Rattle.lines.proofs.inner.find.next_end as call
@@ -18,23 +18,19 @@ abbrev μ-loop : call.Tie.MeasureT-loop
 returns : call.Tie.Need-returns Inv-loop μ-loop
 returns c =
     let at = c .before .before .before in
-    let s = now (at .before .before .before .args .s) in
-    let none = found s (at .loop .i) (omega arith) (c .if1 .taken) in
-    omega (arith, at .loop .inv .0, none)
+    omega (arith, found (now (at .before .before .before .args .s)) (at .loop .i) (omega arith) (c .if1 .taken))
 
 loop-again : call.Tie.Need-loop-again Inv-loop μ-loop
 loop-again c =
     let at = c .before .before .before in
-    let s = now (at .before .before .before .args .s) in
-    let next = passed s (at .loop .i) (omega arith) (c .if1 .left) in
-    (omega (arith, at .loop .inv .0, next), omega arith)
+    let next = passed (now (at .before .before .before .args .s)) (at .loop .i) (omega arith) (c .if1 .left) in
+    search needs
 
 returns-2 : call.Tie.Need-returns-2 Inv-loop μ-loop
 returns-2 c =
     let at = c .before in
-    let s = now (at .before .before .before .args .s) in
-    let none : untilEnd (drop (at .loop .i) s) ≡ 0 = ap untilEnd (drop-of-length-le s {i = at .loop .i} (omega arith)) in
-    omega (arith, at .loop .inv .0, none)
+    let none = drop-of-length-le (now (at .before .before .before .args .s)) {i = at .loop .i} (omega arith) in
+    omega (arith, ap untilEnd none)
 
 -- skip-windows-requires, loop-holds, shared-slice-read-if1, returns, add-i, loop-less, loop-again, returns-2
 pub next-end-spec : {M : Type 1} → call.Statement.statement M
