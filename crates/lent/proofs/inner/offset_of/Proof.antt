@@ -1,19 +1,16 @@
 -- `inner::offset_of` answers the entry's offset where no entry is refused.
-use mathlib.Core.Path.{ap, _∙_}
 use borrow.Author.Needs.{needs}
 use mir.Syntax.{w32}
 use mir.Val.{SFits}
 use mir.Facts.{toZ-ofZ}
-use Rattle.refusals.specs.Outcome.{answered}
 use Rattle.tables.specs.Entries.{offset}
 use Rattle.lent.proofs.ByAnswer.{good, bad}
 use Rattle.lent.proofs.inner.offset_of as call
 
-fits : (c : call.Tie.Start) → SFits w32 (offset (c .args .entry))
-fits c = search needs
-
 returns : call.Tie.Need-returns
-returns c = ap answered (toZ-ofZ (fits (c .before .before .before))) ∙ good _ _ (c .before .enum-told .given .1)
+returns c =
+    let fits : SFits w32 (offset (c .before .before .before .args .entry)) = search needs in
+    rw (toZ-ofZ fits) (good _ _ (c .before .enum-told .given .1))
 
 returns-2 : call.Tie.Need-returns-2
 returns-2 c = bad _ _ _ (c .enum-told2 .given .1)
