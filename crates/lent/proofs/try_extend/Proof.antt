@@ -66,6 +66,7 @@ module _ {M : Type 1} (𝓤 : URA M) (H : Heap 𝓤) (A : Atoms 𝓤) (W : Given
         (and-then ! (held ! 5 refl) (arg ! 9 refl)) (λ r is g.
         let parts = struct.owed X.the-type X.Laws.the-laws r _ g in
         lands-at ! 6 refl (a-growth .typed W r g) $
+        -- the table, 8 bytes into what the call made, is stored behind the reference
         assigns ! (of-opd ! (load ! (from ! (fld ! {d = 8} refl (stop !)))
         (look-in ! 6 (sub ! 1 {d = 8} refl (whole !))))) (from ! (hop ! (look ! 10 refl) (stop !)))
         (store-raw ! 0 refl (a-table .typed W (r .table) (parts .1 .0))) $
@@ -94,11 +95,10 @@ unfolding this.Code.routine tablesOf
 try-extend-spec 𝓤 H 𝓜 𝓖 𝓡 =
     let A = 𝓖 .A in
     let W = givenOf 𝓤 H 𝓜 𝓖 in
+    let table = goes-ref 𝓤 H A W 1 0 tt (plain (λ _. T.the-row)) in
+    let entry = goes-dropped 𝓤 H A W 1 (plain (λ _. E.the-row)) yes (λ κs x w. refl) in
     by-walk 𝓤 H 𝓜 𝓖 𝓡 this.Code.env this.ended (this.clauses 𝓤 H A (𝓜 .mem) (𝓡 .run)) this.Key.name this.Code.function
-    (this.Code.unfolded 𝓤 H 𝓜 𝓡) stayed (
-      goes-ref 𝓤 H A W 1 0 tt (plain (λ _. T.the-row)),
-      (goes-dropped 𝓤 H A W 1 (plain (λ _. E.the-row)) yes (λ κs x w. refl), tt),
-    )
+    (this.Code.unfolded 𝓤 H 𝓜 𝓡) stayed (table, (entry, tt))
     (walks 𝓤 H A W (𝓜 .mem) (𝓡 .run) (tablesOf 𝓤 H 𝓜 (tables 𝓤 H 𝓜 𝓡 this.Code.env))
     (cited 𝓤 H _ 𝓜 𝓡 this.Code.env one.Symbol.name _ this.Code.calls-tables·LeapTable·try-extend
     (one.Met.met 𝓤 H 𝓜 𝓖 𝓡)))
