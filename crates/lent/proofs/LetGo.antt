@@ -58,7 +58,7 @@ module _ {M : Type 1} (𝓤 : URA M) (H : Heap 𝓤) (A : Atoms 𝓤) where
     all-go [] ks qs = tt
     all-go (s ∷ ss) ks qs = (goes-dropped 𝓤 H A W n s (ks .0) (qs .0), all-go ss (ks .1) (qs .1))
 
--- at the result r, of which the contract says what it does
+-- such a walk ends at the result r, once what the contract says of r is shown
 pub ends : {M : Type 1} {𝓤 : URA M} {H : Heap 𝓤} {A : Atoms 𝓤} {K : Type 0} {W : Given 𝓤 H A} {Γ : List (Item 𝓤)} → K
     → (T : Ended) (c : Clauses 𝓤 T) (y : walkOf 𝓤 H A T (let-go T) c .Ghost)
     (ν : Valued (typeAt (T .signature .result) (y .0 .0))) (r : Res (T .signature) (y .0 .0))
@@ -75,6 +75,7 @@ ends {𝓤 = 𝓤} {H = H} {A = A} {W = W} t T c y ν r ws g said =
     use0 W (‵ ϕ) (had 𝓤 H A (y .0 .0) ss (T .kept) (y .0 .3) ws (y .0 .4)) $ use0 W (raw _) said $
     move t (1 ∷ 2 ∷ []) $ join t $ move t (2 ∷ 0 ∷ []) $ join t $ done t
 
+-- a walk gives the theorem about the routine; hs is what is still owned of each parameter at the end
 module _ {M : Type 1} (𝓤 : URA M) (H : Heap 𝓤) (𝓜 : Model 𝓤 H) (𝓖 : GhostRules 𝓤 H) (𝓡 : Running 𝓤 H 𝓜)
     (γ : Routines) where
   abbrev Runs : Fn → Fun 𝓤

@@ -38,7 +38,7 @@ module _ {M : Type 1} {𝓤 : URA M} {H : Heap 𝓤} {A : Atoms 𝓤} {K : Type 
       → Seq K W Γ (prop (WpFn 𝓤 H C Λ f vs Q))
   enters t C Λ f vs Q k = enter t C Λ f vs Q $ rooms K W t Γ (f .locals) _ k
 
-  -- its cell and its death are entries n and n + 1
+  -- a local is freed: its cell and what says that it dies are entries n and n + 1
   pub frees-at : K → (n : ℕ) {τ : Ty} {b : ℕ} {v : Val} {E : Env 𝓤 H} {G : Goal 𝓤 H}
       → _≡_ {A = Item 𝓤 × Item 𝓤} (nth 𝓤 H A n Γ, nth 𝓤 H A n (del 𝓤 H A n Γ))
       (‵ (fat fullShare τ b 0 v), ‵ (fdies τ b))
@@ -49,23 +49,25 @@ module _ {M : Type 1} {𝓤 : URA M} {H : Heap 𝓤} {A : Atoms 𝓤} {K : Type 
       move t (1 ∷ []) $ free1 t $ s)
 
   module _ {E : Env 𝓤 H} {i : ℕ} where
-    -- entry n is a share of its cell
+    -- the local i is read: entry n is a share of its cell
     pub held : K → (n : ℕ) {q : Share} {v : Val} → nth 𝓤 H A n Γ ≡ Cell 𝓤 H E i q v
         → Opd K W Γ E (copy (place i [])) v
     held t n e = load t (from t (stop t)) (look t n e)
 
+    -- so is the last argument of a call
     pub arg : K → (n : ℕ) {q : Share} {v : Val} → nth 𝓤 H A n Γ ≡ Cell 𝓤 H E i q v
         → Opds K W Γ E (copy (place i []) ∷ []) (v ∷ [])
     arg t n e = and-then t (held t n e) (no-more t)
 
     module _ {C : Calls 𝓤 H} {Λ : Loops 𝓤 H} {q : Post 𝓤 H} {rest : Body} {v : Val} where
-      -- entry n is room for it
+      -- the local i is written for the first time: entry n is room for it
       pub sets : K → (n : ℕ) {rv : RValue} → Rv K W Γ E rv v → nth 𝓤 H A n Γ ≡ Vacant 𝓤 H E i
           → T (hasTy (spotOf 𝓤 H E i .0) v) × WT v
           → Step K W (put 𝓤 H A n (Cell 𝓤 H E i fullShare v) Γ) (runs C Λ E rest q)
           Γ (runs C Λ E (seq (assign (place i []) rv) rest) q)
       sets t n r e wt = assigns t r (from t (stop t)) (init t n e wt)
 
+      -- so is the result of a call
       pub lands-at : K → (n : ℕ) → nth 𝓤 H A n Γ ≡ Vacant 𝓤 H E i
           → T (hasTy (spotOf 𝓤 H E i .0) v) × WT v
           → Step K W (put 𝓤 H A n (Cell 𝓤 H E i fullShare v) Γ) (runs C Λ E rest q)
