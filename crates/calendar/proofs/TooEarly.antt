@@ -8,7 +8,7 @@ use Rattle.refusals.specs.Outcome.{Outcome, answered, refused}
 use Rattle.calendar.specs.Calendar.{Date}
 use Rattle.calendar.specs.Dates.{tooEarly, daysBetween, ofBoth, daysUntil}
 
--- ---- by the days between them
+-- the days between two dates, where neither is too early
 pub record Given (a b : Date) (n : ℤ) : Type 0 where
   pub days : n ≡ daysBetween a b
   pub gives : (o : Outcome ℤ) → o ≡ ofBoth a b o
