@@ -27,7 +27,8 @@ counts-to : (k s d t : ℕ) → s ≤ k → k < t → t ≡ s + d → k - s + 1 
 counts-to k s d t h l e = omega arith
 
 -- day z, from 0000-03-01 on, is day k of its year and lies in the month m of the calendar's year n
-module _ (z n m k : ℕ) (low : 1 ≤ n) (from : 1 ≤ m) (to : m ≤ 12) (in-year : InYear z (marchOf n m) k) (in-month : InMonth k (fromMarch m)) where
+module _ (z n m k : ℕ) (low : 1 ≤ n) (from : 1 ≤ m) (to : m ≤ 12) (in-year : InYear z (marchOf n m) k)
+    (in-month : InMonth k (fromMarch m)) where
   abbrev day : ℕ
   day = k - start m + 1
 
@@ -45,7 +46,8 @@ module _ (z n m k : ℕ) (low : 1 ≤ n) (from : 1 ≤ m) (to : m ≤ 12) (in-ye
       counts-to k (start m) _ _ (in-month .begun) (in-month .ahead) (month-length (leap (pos n)) m from to two)
   fits (yes e) =
       counts-to k (start m) _ _ (in-month .begun) (in-february e)
-      (sym (subst (λ (j : ℕ). start j + daysIn (leap (pos n)) j ≡ cond (leap (pos n)) 366 365) (sym e) (february (leap (pos n)))))
+      (sym (subst (λ (j : ℕ). start j + daysIn (leap (pos n)) j ≡ cond (leap (pos n)) 366 365) (sym e)
+      (february (leap (pos n)))))
 
   real : Real (on (pos n) m day)
   real = record { month-from = from; month-to = to; day-from = omega arith; day-to = fits (ℕ-discrete m 2) }
@@ -63,7 +65,8 @@ module _ (z n m k : ℕ) (low : 1 ≤ n) (from : 1 ≤ m) (to : m ≤ 12) (in-ye
   dated u e = sym (ap dateOf (sym (unix-day u e)) ∙ date-of-day (on (pos n) m day) real)
 
 -- ---- by the month from March on that holds the day
-module _ (z u y mp k s : ℕ) (e : u + 719468 ≡ z) (in-year : InYear z y k) (in-month : InMonth k mp) (at : s ≡ monthStart mp) where
+module _ (z u y mp k s : ℕ) (e : u + 719468 ≡ z) (in-year : InYear z y k) (in-month : InMonth k mp)
+    (at : s ≡ monthStart mp) where
   some-year : 1 ≤ y
   some-year = not-first y in-year
     where

@@ -50,7 +50,8 @@ then (by-day d g p) (by-day e f q) = by-day (d ∙ e) (g ∙ f) (omega arith)
 
 next-later : (d : Date) → Real d → Before d (next d)
 next-later d r =
-    after (Before d) (d .year) (d .month) (d .day) r (λ h. by-day refl refl (omega arith)) (λ h k. by-month refl (omega arith))
+    after (Before d) (d .year) (d .month) (d .day) r (λ h. by-day refl refl (omega arith))
+    (λ h k. by-month refl (omega arith))
     (λ h k. by-year (record { lt = year-after (d .year) }))
 
 pub later-dates : LaterDaysHaveLaterDates
@@ -63,7 +64,8 @@ later-dates n (suc m) h = by-order (decLt n m) (later-dates n m)
     by-order (yes l) earlier = then (earlier l) (next-later (dateOf (pos m)) (real-date (pos m)))
     by-order (no g) earlier =
         let e : n ≡ m = omega (arith, g) in
-        subst (λ (k : ℕ). Before (dateOf (pos k)) (dateOf (pos (suc m)))) (sym e) (next-later (dateOf (pos m)) (real-date (pos m)))
+        subst (λ (k : ℕ). Before (dateOf (pos k)) (dateOf (pos (suc m)))) (sym e)
+        (next-later (dateOf (pos m)) (real-date (pos m)))
 
 pub no-earlier-dates : (n m : ℕ) → n ≤ m → NotAfter (dateOf (pos n)) (dateOf (pos m))
 no-earlier-dates n m h = by-order (decLt n m)

@@ -66,11 +66,13 @@ module _ (n : ℕ) (low : 1 ≤ n) where
 pub next-day : (d : Date) → Real d → dayOf (next d) ≡ sucℤ (dayOf d)
 next-day d r =
     after (λ e. dayOf e ≡ sucℤ (dayOf d)) (d .year) (d .month) (d .day) r
-    (λ h. goes (d .year) (a .years) (d .month) (d .day + 1) (a .is) (a .low) (day-on (a .years) (a .low) (d .month) (d .day)))
+    (λ h. goes (d .year) (a .years) (d .month) (d .day + 1) (a .is) (a .low)
+    (day-on (a .years) (a .low) (d .month) (d .day)))
     (λ h k. goes (d .year) (a .years) (d .month + 1) 1 (a .is) (a .low)
     (month-on (a .years) (a .low) (d .month) (r .month-from) k ∙ ap (λ (n : ℕ). dayNumber (a .years) (d .month) n + 1)
     (sym (h ∙ ap (λ (l : Bool). daysIn l (d .month)) leap-alike))))
-    (λ h k. goes (sucℤ (d .year)) (a .years + 1) 1 1 (ap sucℤ (a .is) ∙ one-more (a .years) (400 * a .eras)) (omega arith)
+    (λ h k. goes (sucℤ (d .year)) (a .years + 1) 1 1 (ap sucℤ (a .is) ∙ one-more (a .years) (400 * a .eras))
+    (omega arith)
     (year-on (a .years) (a .low) ∙ (λ i. dayNumber (a .years) (sym k i) (sym h i) + 1)))
   where
     a : Above (d .year)
@@ -83,7 +85,8 @@ next-day d r =
         → dayNumber n m k ≡ dayNumber (a .years) (d .month) (d .day) + 1 → formula y m k ≡ sucℤ (dayOf d)
     goes y n m k is low e =
         counted y m k n (a .eras) is low ∙ ap (λ (x : ℕ). subℕ x (epochNumber (a .eras))) e
-        ∙ sym (ap sucℤ (counted (d .year) (d .month) (d .day) (a .years) (a .eras) (a .is) (a .low)) ∙ one-more _ (epochNumber (a .eras)))
+        ∙ sym (ap sucℤ (counted (d .year) (d .month) (d .day) (a .years) (a .eras) (a .is) (a .low))
+        ∙ one-more _ (epochNumber (a .eras)))
 
 pub prev-day : (d : Date) → Real d → dayOf (prev d) ≡ predℤ (dayOf d)
 prev-day d r =
@@ -121,7 +124,8 @@ day-zero d r h = λ i. on (year i) (first i) (day i)
 
     of-year : start (d .month) + d .day ≡ 307
     of-year =
-        rest (daysInYears march-year) (start (d .month) + d .day) (a .eras) (ap daysInYears year-is ∙ until-1969 (a .eras)) whole
+        rest (daysInYears march-year) (start (d .month) + d .day) (a .eras)
+        (ap daysInYears year-is ∙ until-1969 (a .eras)) whole
       where
         rest : (y k e : ℕ) → y ≡ 146097 * e + 719162 → y + k ≡ 146097 * e + 719469 → k ≡ 307
         rest y k e f g = omega arith
@@ -137,7 +141,8 @@ day-zero d r h = λ i. on (year i) (first i) (day i)
 
     year : d .year ≡ pos 1970
     year =
-        a .is ∙ ap (λ (n : ℕ). subℕ n (400 * a .eras)) (next-year (a .years) (a .eras) (a .low) (ap (marchOf (a .years)) (sym first) ∙ year-is))
+        a .is ∙ ap (λ (n : ℕ). subℕ n (400 * a .eras))
+        (next-year (a .years) (a .eras) (a .low) (ap (marchOf (a .years)) (sym first) ∙ year-is))
         ∙ not-below (400 * a .eras + 1970) (400 * a .eras) (omega arith) ∙ ap pos (omega arith)
       where
         next-year : (n e : ℕ) → 1 ≤ n → n - 1 ≡ 400 * e + 1969 → n ≡ 400 * e + 1970

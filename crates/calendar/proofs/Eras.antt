@@ -98,18 +98,23 @@ module _ (n e : ℕ) where
 
   -- the formula's last three lines, at a year that begins in March
   from-march : (m d : ℕ)
-      → era (subℕ n (400 * e)) *ℤ pos 146097 +ℤ doe (subℕ n (400 * e)) m d -ℤ pos 719468 ≡ subℕ (daysInYears n + (monthStart m + d)) (epochNumber e)
+      → era (subℕ n (400 * e)) *ℤ pos 146097 +ℤ doe (subℕ n (400 * e)) m d -ℤ pos 719468
+      ≡ subℕ (daysInYears n + (monthStart m + d)) (epochNumber e)
   unfolding doe doy
   from-march m d =
       (λ i. (ap (λ (z : ℤ). z *ℤ pos 146097) same-era ∙ times (n / 400) e 146097) i +ℤ
       (in-year i +ℤ of-naturals (monthStart m + d) 1 i) -ℤ pos 719468)
-      ∙ ap (λ (z : ℤ). subℕ (n / 400 * 146097) (e * 146097) +ℤ z -ℤ pos 719468) (sum of-era-year (n % 400 / 100) (monthStart m + d) 1)
-      ∙ ap (λ (z : ℤ). z -ℤ pos 719468) (sum (n / 400 * 146097) (e * 146097) (of-era-year + (monthStart m + d)) (n % 400 / 100 + 1))
+      ∙ ap (λ (z : ℤ). subℕ (n / 400 * 146097) (e * 146097) +ℤ z -ℤ pos 719468)
+      (sum of-era-year (n % 400 / 100) (monthStart m + d) 1)
+      ∙ ap (λ (z : ℤ). z -ℤ pos 719468)
+      (sum (n / 400 * 146097) (e * 146097) (of-era-year + (monthStart m + d)) (n % 400 / 100 + 1))
       ∙ less (n / 400 * 146097 + (of-era-year + (monthStart m + d))) (e * 146097 + (n % 400 / 100 + 1)) 719468
-      ∙ same _ _ _ _ (sums (daysInYears n) (n / 400 * 146097) (n % 400 * 365 + n % 400 / 4) (n % 400 / 100) (monthStart m + d)
+      ∙ same _ _ _ _ (sums (daysInYears n) (n / 400 * 146097) (n % 400 * 365 + n % 400 / 4) (n % 400 / 100)
+      (monthStart m + d)
       (of-era n) (omega (arith, hundreds-fewer (n % 400))))
     where
-      in-year : yoe (subℕ n (400 * e)) *ℤ pos 365 +ℤ quotZ (yoe (subℕ n (400 * e))) (pos 4) -ℤ quotZ (yoe (subℕ n (400 * e)))
+      in-year : yoe (subℕ n (400 * e)) *ℤ pos 365 +ℤ quotZ (yoe (subℕ n (400 * e))) (pos 4) -ℤ quotZ
+          (yoe (subℕ n (400 * e)))
           (pos 100) ≡ subℕ of-era-year (n % 400 / 100)
       in-year =
           ap (λ (z : ℤ). z *ℤ pos 365 +ℤ quotZ z (pos 4) -ℤ quotZ z (pos 100)) same-yoe
@@ -129,7 +134,8 @@ pub counted : (y : ℤ) (m d n e : ℕ) → y ≡ subℕ n (400 * e) → 1 ≤ n
     → formula y m d ≡ subℕ (dayNumber n m d) (epochNumber e)
 unfolding formula
 counted y m d n e is low =
-    ap (λ (z : ℤ). era z *ℤ pos 146097 +ℤ doe z (fromMarch m) d -ℤ pos 719468) (ap (λ (z : ℤ). marchYear z m) is ∙ same-march n e (ltb 2 m) low)
+    ap (λ (z : ℤ). era z *ℤ pos 146097 +ℤ doe z (fromMarch m) d -ℤ pos 719468)
+    (ap (λ (z : ℤ). marchYear z m) is ∙ same-march n e (ltb 2 m) low)
     ∙ from-march (marchOf n m) e (fromMarch m) d
 
 -- the same of a lifted year, from its parts
@@ -137,7 +143,8 @@ pub of-lifted : (y : ℤ) (m d n before-year before-month : ℕ) → Lifted y n 
     → before-month ≡ monthStart (fromMarch m)
     → subℕ (before-year + before-month + d) (epochNumber liftEras) ≡ formula y m d
 of-lifted y m d n b s l e f =
-    ap (λ (k : ℕ). subℕ k (epochNumber liftEras)) ((λ i. e i + f i + d) ∙ sums (daysInYears (marchOf n m)) (monthStart (fromMarch m)))
+    ap (λ (k : ℕ). subℕ k (epochNumber liftEras))
+    ((λ i. e i + f i + d) ∙ sums (daysInYears (marchOf n m)) (monthStart (fromMarch m)))
     ∙ sym (counted y m d n liftEras (l .is) (l .low))
   where
     sums : (a c : ℕ) → a + c + d ≡ a + (c + d)

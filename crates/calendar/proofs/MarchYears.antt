@@ -71,7 +71,8 @@ at-most-366 a = by-length (leap (pos (suc a))) (daysInYears (suc a)) (daysInYear
 -- ---- by eras and the years of an era
 pub of-era : (y : ℕ) → daysInYears y ≡ y / 400 * 146097 + (y % 400 * 365 + y % 400 / 4 - y % 400 / 100)
 of-era y =
-    sums (y / 400) (y % 400) (y / 4) (y / 100) (y % 400 / 4) (y % 400 / 100) (omega arith) fourths hundreds (hundreds-fewer y)
+    sums (y / 400) (y % 400) (y / 4) (y / 100) (y % 400 / 4) (y % 400 / 100) (omega arith) fourths hundreds
+    (hundreds-fewer y)
     (hundreds-fewer (y % 400))
   where
     fourths : y / 4 ≡ 100 * (y / 400) + y % 400 / 4
@@ -114,7 +115,8 @@ module _ (n c b k j : ℕ) (of-all : n ≡ 146097 * c / 4 + b) (few : k < 100) (
   ends : Dec (k < 99) → n < daysInYears (suc (100 * c + k))
   ends (yes l) =
       subst (λ (y : ℕ). n < daysInYears y) next-year
-      (sums (daysInYears (100 * c + suc k)) (146097 * c / 4) (1461 * suc k / 4) (of-century c (suc k) (omega arith)) of-all
+      (sums (daysInYears (100 * c + suc k)) (146097 * c / 4) (1461 * suc k / 4)
+      (of-century c (suc k) (omega arith)) of-all
       (reaches b (1461 * suc k) year-ahead))
     where
       next-year : 100 * c + suc k ≡ suc (100 * c + k)
@@ -124,7 +126,8 @@ module _ (n c b k j : ℕ) (of-all : n ≡ 146097 * c / 4 + b) (few : k < 100) (
       sums y a e h i l = omega arith
   ends (no g) =
       subst (λ (y : ℕ). n < daysInYears y) next-century
-      (sums (daysInYears (100 * suc c + 0)) (146097 * suc c / 4) (of-century (suc c) 0 (omega arith)) (reaches n (146097 * suc c) century-ahead))
+      (sums (daysInYears (100 * suc c + 0)) (146097 * suc c / 4) (of-century (suc c) 0 (omega arith))
+      (reaches n (146097 * suc c) century-ahead))
     where
       next-century : 100 * suc c + 0 ≡ suc (100 * c + k)
       next-century = omega (arith, g)

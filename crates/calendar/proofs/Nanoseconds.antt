@@ -23,7 +23,8 @@ back a = minus (suc a * 86400000000000) ∙ below 0 (suc a * 86400000000000) (om
 pub too-far-back : (z : ℤ) → ltZ z (negsuc 106750) ≡ true → refused 1 ≡ durationOf (nanos z)
 too-far-back (pos a) t = let e : _≡_ {A = ℕ} 0 1 = cc in absurd (omega arith)
 too-far-back (negsuc a) t =
-    sym (ap durationOf (back a) ∙ no-duration-back (a * 86400000000000 + 86399999999999) (omega (arith, ltb-true 106750 a t)))
+    sym (ap durationOf (back a) ∙ no-duration-back (a * 86400000000000 + 86399999999999)
+    (omega (arith, ltb-true 106750 a t)))
 
 pub too-far-on : (z : ℤ) → ltZ (pos 106751) z ≡ true → refused 1 ≡ durationOf (nanos z)
 too-far-on (pos a) t = sym (no-duration (a * 86400000000000) (omega (arith, ltb-true 106751 a t)))

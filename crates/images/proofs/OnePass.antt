@@ -154,6 +154,7 @@ module _ {b : List ℕ} {t n i before one-more place : ℕ} (p : Pass b t n i be
           let s = table-sized b in
           let one = bits-tell (sfits-widen tt f) (more-fits _ (p .fits)) (e ∙ p .next) in
           let on : follows (slot b (i - 1)) (slot b i) ≡ true = rw (lt-ltb _ _ above, equal-yes _ _ one) in
-          let passed = one-more-valid _ _ i (omega arith) (omega arith) (p .some) (omega arith) (omega arith) (p .passes) on in
+          let passed =
+          one-more-valid _ _ i (omega arith) (omega arith) (p .some) (omega arith) (omega arith) (p .passes) on in
           let read : toZ w64 one-more ≡ offset (slot b i) = ap (toZ w64) (sym e) ∙ toZ-ofZ (sfits-widen tt f) in
           rw read (step (p .opened) t i (p .reached) place l f passed (p .counted) (p .in-force))

@@ -10,7 +10,8 @@ use borrow.Author.Needs.{needs}
 use borrow.Author.Tests.{le-ltb}
 use borrow.Rule.Slice.PartMut.{midOf, putMid}
 use lib.ListN.{length, getD, take, drop, length-append, length-drop, length-take, drop-of-length-le}
-use lib.Seq.{sets, sets-eq, length-sets, drop-drop, length-take-le, take-add, take-all, take-at, take-suc, take-take, take-append-add, getD-drop}
+use lib.Seq.{sets, sets-eq, length-sets, drop-drop, length-take-le, take-add, take-all, take-at, take-suc, take-take}
+use lib.Seq.{take-append-add, getD-drop}
 use Rattle.words.proofs.Stores.{joined}
 use Rattle.lines.specs.OutcomeLine.{Puts, PutsWithRoom}
 use Rattle.lines.specs.Pieces.{begunAfter, written, untilEnd, Answers, AnswersBlock, lineUpTo, Keeps}

@@ -40,7 +40,8 @@ module _ (n : ℕ) (l h s : List ℕ) (e : within l h s ≡ true) where
 -- a turn of the test
 pub opened : (l h s : List ℕ) (i : ℕ) → i < length l → i < length h → i < length s
     → within (drop i l) (drop i h) (drop i s)
-    ≡ ((leb (getD l i 0) (getD s i 0) && leb (getD s i 0) (getD h i 0)) && within (drop (i + 1) l) (drop (i + 1) h) (drop (i + 1) s))
+    ≡ ((leb (getD l i 0) (getD s i 0) && leb (getD s i 0) (getD h i 0)) && within (drop (i + 1) l) (drop (i + 1) h)
+    (drop (i + 1) s))
 opened l h s i in-l in-h in-s = rw (add-one, drop-cons l i 0 in-l, drop-cons h i 0 in-h, drop-cons s i 0 in-s)
 
 -- the first 16 bytes, and those after the first 14

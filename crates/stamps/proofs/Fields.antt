@@ -34,9 +34,12 @@ module _ (s : List ℕ) (formed : within first last s ≡ true) where
   pub long : length s ≡ 30
   long = as-long first last s formed
 
-  module _ (k at : ℕ) (zeros : take k (drop at first) ≡ replicate k 48) (nines : take k (drop at last) ≡ replicate k 57) where
+  module _ (k at : ℕ) (zeros : take k (drop at first) ≡ replicate k 48)
+      (nines : take k (drop at last) ≡ replicate k 57) where
     part : within (replicate k 48) (replicate k 57) (take k (drop at s)) ≡ true
-    part = rw (zeros, nines) at (start-within k (drop at first) (drop at last) (drop at s) (rest-within at first last s formed))
+    part =
+        rw (zeros, nines) at (start-within k (drop at first) (drop at last) (drop at s)
+        (rest-within at first last s formed))
 
     part-length : length (take k (drop at s)) ≡ k
     part-length = as-long (replicate k 48) (replicate k 57) (take k (drop at s)) part ∙ length-replicate k 48

@@ -1,7 +1,8 @@
 -- Each call of this crate leaves one answer for each input, and one table where it gives one.
 use mathlib.Core.Path.{sym, _∙_}
 use Rattle.refusals.proofs.OneAnswer.{OneAnswer, viewed}
-use Rattle.tables.proofs.Tells.{extension-tells, length-tells, empty-tells, entry-tells, update-tells, offset-tells}
+use Rattle.tables.proofs.Tells.{extension-tells, length-tells, empty-tells, entry-tells, update-tells}
+use Rattle.tables.proofs.Tells.{offset-tells}
 use Rattle.tables.proofs.LeapEntry.new.Reads as entry-new-contract
 use Rattle.tables.proofs.LeapTable.new.Reads as new-contract
 use Rattle.tables.proofs.LeapTable.from_lists.Reads as from-lists-contract

@@ -24,7 +24,8 @@ module _ (xs : List ℕ) (n t : ℕ) where
       let w = h .within in
       record { within = omega arith; below = h .below; above = λ i l l′. h .above i (omega arith) l′ }
 
-  module _ (r : Rises xs n) (low high middle : ℕ) (h : Halves xs n t low high) (a : low ≤ middle) (b : middle < high) where
+  module _ (r : Rises xs n) (low high middle : ℕ) (h : Halves xs n t low high) (a : low ≤ middle)
+      (b : middle < high) where
     pub up : getD xs middle 0 ≤ t → Halves xs n t (middle + 1) high
     up le = record { order = omega arith; within = h .within; below = λ i l. go i l (decLt i middle); above = h .above }
       where

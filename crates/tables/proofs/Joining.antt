@@ -66,7 +66,8 @@ module _ (xs : List ℕ) (zs : List ℤ) (n : ℕ) (h : n ≤ length xs) (h′ :
   one-more-valid p l l′ =
       let e = slotAt xs zs n in
       rw (one-more xs zs n l l′)
-      (of-last (λ es q. valid es ≡ true → follows q e ≡ true → valid (es ++ e ∷ []) ≡ true) p (λ q qs s. valid-joined q qs e))
+      (of-last (λ es q. valid es ≡ true → follows q e ≡ true → valid (es ++ e ∷ []) ≡ true) p
+      (λ q qs s. valid-joined q qs e))
 
   pub full-slots : (e : Entry) → 64 ≤ n → joinRefusal (slots xs zs n) e ≡ 5
   unfolding joinRefusal

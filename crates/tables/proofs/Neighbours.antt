@@ -11,7 +11,8 @@ use lib.ListN.{length, getD}
 use lib.IntN.{pos, _+ℤ_}
 use mir.Syntax.{w32}
 use mir.Val.{SFits}
-use Rattle.tables.specs.Entries.{Entry, threshold, offset, equal, neighbours, follows, valid, stepRefusal, firstRefusal}
+use Rattle.tables.specs.Entries.{Entry, threshold, offset, equal, neighbours, follows, valid, stepRefusal}
+use Rattle.tables.specs.Entries.{firstRefusal}
 use Rattle.tables.proofs.Integers.{equal-no, equal-true, none-above}
 
 pub both : (a b : Bool) → (a && b) ≡ true → (a ≡ true) × (b ≡ true)

@@ -11,7 +11,8 @@ use borrow.Author.Tests.{leb-true, eqb-true, ltb-true, le-leb, lt-ltb}
 use lib.Dec.{leb, ltb, eqb}
 use lib.ListN.{length, getD, getElem?}
 use lib.IntN.{pos, _+ℤ_}
-use Rattle.tables.specs.Entries.{Entry, threshold, offset, entry, equal, neighbours, follows, aDayOn, valid, begins, regular}
+use Rattle.tables.specs.Entries.{Entry, threshold, offset, entry, equal, neighbours, follows, aDayOn, valid}
+use Rattle.tables.specs.Entries.{begins, regular}
 use Rattle.tables.proofs.Integers.{equal-true, equal-yes}
 use Rattle.tables.proofs.FirstSlots.{some-at, none-at}
 use Rattle.tables.proofs.Neighbours.{both, at-each}
@@ -67,7 +68,8 @@ valid-tested es = (is, if)
   where
     is : valid es ≡ true → Valid es
     is v =
-        let tests : AtEach (λ p e. (ltb (threshold p) (threshold e) ≡ true) × (equal (offset e) (offset p +ℤ pos 1) ≡ true)) es =
+        let tests : AtEach (λ p e. (ltb (threshold p) (threshold e) ≡ true) ×
+        (equal (offset e) (offset p +ℤ pos 1) ≡ true)) es =
         λ k p e h h′. both _ _ (passes follows es v k p e h h′) in
         record {
           rises = λ k p e h h′. ltb-true _ _ (tests k p e h h′ .0);

@@ -2,7 +2,8 @@
 use mathlib.Core.Path.{_≡_, refl, sym, ap, _∙_}
 use mathlib.Core.List.{List, [], _∷_, _++_, append-nil, append-assoc}
 use Prim.Native.Nat.{ℕ, zero, suc, zero-le, _+_, _-_, _*_, _/_, _%_, _^_, _<_, _≤_}
-use native.Mathlib.Nat.{pow-suc, pow-succ', pow-le-pow-right, add-zero, zero-add, sub-zero, sub-self, add-suc, suc-add, div-one, div-div-eq-div-mul}
+use native.Mathlib.Nat.{pow-suc, pow-succ', pow-le-pow-right, add-zero, zero-add, sub-zero, sub-self, add-suc, suc-add}
+use native.Mathlib.Nat.{div-one, div-div-eq-div-mul}
 use native.Mathlib.Numerals.{add-one}
 use native.Mathlib.Omega.{arith}
 use borrow.Author.Tests.{lt-ltb, le-ltb}

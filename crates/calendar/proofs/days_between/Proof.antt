@@ -12,7 +12,8 @@ use borrow.Author.Needs.{needs}
 use Rattle.calendar.proofs.days_between as call
 
 read : (c : call.Tie.After-days-of-date2)
-    → toZ w64 (ofZ w64 (c .before .days-of-date .result)) -ℤ toZ w64 (ofZ w64 (c .days-of-date2 .result)) ≡ daysBetween (dateIn (c .before .before .args .from)) (dateIn (c .before .before .args .to))
+    → toZ w64 (ofZ w64 (c .before .days-of-date .result)) -ℤ toZ w64 (ofZ w64 (c .days-of-date2 .result))
+    ≡ daysBetween (dateIn (c .before .before .args .from)) (dateIn (c .before .before .args .to))
 read c =
     λ i. (toZ-ofZ {w = w64} (record { sfits = c .before .days-of-date .ok }) ∙ c .before .days-of-date .ensures) i -ℤ
     (toZ-ofZ {w = w64} (record { sfits = c .days-of-date2 .ok }) ∙ c .days-of-date2 .ensures) i

@@ -15,7 +15,8 @@ returns c =
     let count = c .before .before in
     let a = count .before .before .before .args in (
       simp length-append (omega (arith, count .put-count .ensures .0)),
-      joined (now (a .out)) 0 (count .put-count .result) (decimal (a .gps .0)) (10 ∷ []) (count .put-count .ensures .1) (count .put-count .ensures .0) refl,
+      joined (now (a .out)) 0 (count .put-count .result) (decimal (a .gps .0)) (10 ∷ []) (count .put-count .ensures .1)
+          (count .put-count .ensures .0) refl,
     )
 
 -- put-count-requires, slice-write-out, add-result, same-length, returns

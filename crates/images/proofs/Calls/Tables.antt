@@ -7,7 +7,8 @@ use Rattle.refusals.proofs.OneAnswer.{OneAnswer, OneAnswerAndEnd, viewed}
 use Rattle.counts.proofs.Tells.{count-tells}
 use Rattle.tables.specs.Answers.{takenIn}
 use Rattle.tables.specs.declared.Taken.{Taken}
-use Rattle.tables.proofs.Tells.{taken-tells, extension-tells, length-tells, empty-tells, entry-tells, update-tells, offset-tells}
+use Rattle.tables.proofs.Tells.{taken-tells, extension-tells, length-tells, empty-tells, entry-tells, update-tells}
+use Rattle.tables.proofs.Tells.{offset-tells}
 use Rattle.images.proofs.table
 
 -- an answer and the bytes left, by one equation

@@ -16,7 +16,8 @@ returns c =
     c .date-of .ensures
     ∙ early (y .before .args .day + 720198) (y .before .args .day + 730) (y .year-holding .result .year)
     (d .before .month-holding .result) (y .year-holding .result .day) (d .days-before-month .result)
-    (omega arith) (y .year-holding .ensures) (d .before .month-holding .ensures) (d .days-before-month .ensures) (c .before .if1 .taken)
+    (omega arith) (y .year-holding .ensures) (d .before .month-holding .ensures) (d .days-before-month .ensures)
+    (c .before .if1 .taken)
 
 returns-2 : call.Tie.Need-returns-2
 returns-2 c =
@@ -25,7 +26,8 @@ returns-2 c =
     c .date-of2 .ensures
     ∙ late (y .before .args .day + 720198) (y .before .args .day + 730) (y .year-holding .result .year)
     (d .before .month-holding .result) (y .year-holding .result .day) (d .days-before-month .result)
-    (omega arith) (y .year-holding .ensures) (d .before .month-holding .ensures) (d .days-before-month .ensures) (c .before .before .if1 .left)
+    (omega arith) (y .year-holding .ensures) (d .before .month-holding .ensures) (d .days-before-month .ensures)
+    (c .before .before .if1 .left)
 
 pub date-of-utc-day-spec : {M : Type 1} → call.Statement.statement M
 date-of-utc-day-spec =

@@ -19,7 +19,8 @@ returns-2 c =
     let a = c .before .before .args in
     let one-more : a .start - a .end - 1 ≡ a .start - suc (a .end) = omega arith in
     c .backward .ensures
-    ∙ ap durationOf (ap negsuc one-more ∙ sym (of-naturals (a .end) (a .start) ∙ below (a .end) (a .start) (c .before .if1 .left)))
+    ∙ ap durationOf (ap negsuc one-more
+    ∙ sym (of-naturals (a .end) (a .start) ∙ below (a .end) (a .start) (c .before .if1 .left)))
 
 pub elapsed-spec : {M : Type 1} → call.Statement.statement M
 elapsed-spec =

@@ -13,4 +13,5 @@ returns c =
 -- put-two-requires, add-out, slice-write-out, same-length, returns
 pub put-two-and-spec : {M : Type 1} → call.Statement.statement M
 put-two-and-spec =
-    call.Tie.close (call.Tie.spec (λ c κs. search needs) (λ c. search needs) (λ c. search needs) (λ c. search needs) returns)
+    call.Tie.close (call.Tie.spec (λ c κs. search needs) (λ c. search needs) (λ c. search needs)
+    (λ c. search needs) returns)

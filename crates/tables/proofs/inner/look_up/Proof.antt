@@ -15,7 +15,8 @@ returns : call.Tie.Need-returns
 returns c = rw (c .before .if1 .taken) (c .told-of-none .ensures ∙ none-in-force (c .before .before .before .args .tai))
 
 count-at-or-below-requires : call.Tie.Need-count-at-or-below-requires
-count-at-or-below-requires c κs = (search needs, rises _ _ _ (search needs) (search needs) (c .before .before .pre .1 .1))
+count-at-or-below-requires c κs =
+    (search needs, rises _ _ _ (search needs) (search needs) (c .before .before .pre .1 .1))
 
 returns-2 : call.Tie.Need-returns-2
 returns-2 c =
@@ -31,4 +32,5 @@ returns-2 c =
 pub look-up-spec : {M : Type 1} → call.Statement.statement M
 look-up-spec =
     call.Tie.close
-    (call.Tie.spec (search needs) returns count-at-or-below-requires (search needs) (search needs) (search needs) returns-2)
+    (call.Tie.spec (search needs) returns count-at-or-below-requires (search needs) (search needs)
+    (search needs) returns-2)

@@ -11,7 +11,8 @@ use mir.Facts.{toZ-ofZ}
 use Rattle.counts.proofs.Signed.{widens, widened}
 use Rattle.tables.specs.Entries.{offset}
 use Rattle.images.proofs.Judged.{slot, Opened}
-use Rattle.images.proofs.OnePass.{Pass, Step, more-fits, begins, none-told, told, not-above, not-one-more, further}
+use Rattle.images.proofs.OnePass.{Pass, Step, more-fits, begins, none-told, told, not-above, not-one-more}
+use Rattle.images.proofs.OnePass.{further}
 use Rattle.images.proofs.inner.lookup.checked_look_up as call
 
 abbrev Inv-loop : call.Tie.InvT-loop

@@ -32,4 +32,5 @@ returns c =
 -- loop-holds, shared-slice-read-none, add-i, loop-less, loop-again, returns
 pub has-no-end-spec : {M : Type 1} → call.Statement.statement M
 has-no-end-spec =
-    call.Tie.close (call.Tie.spec Inv-loop μ-loop (λ c. (refl, omega arith)) (λ c. search needs) (λ c. search needs) (λ c. search needs) loop-again returns)
+    call.Tie.close (call.Tie.spec Inv-loop μ-loop (λ c. (refl, omega arith)) (λ c. search needs) (λ c. search needs)
+    (λ c. search needs) loop-again returns)

@@ -29,5 +29,6 @@ returns c =
 pub keep-spec : {M : Type 1} → call.Statement.statement M
 keep-spec =
     call.Tie.close
-    (call.Tie.spec (λ c. search needs) (λ c. search needs) (λ c κs. search needs) (λ c. search needs) (λ c. search needs) (λ c. search needs) (λ c. search needs)
+    (call.Tie.spec (λ c. search needs) (λ c. search needs) (λ c κs. search needs) (λ c. search needs)
+    (λ c. search needs) (λ c. search needs) (λ c. search needs)
     (λ c κs. search needs) (λ c. search needs) (λ c. search needs) returns)

@@ -36,4 +36,5 @@ returns-2 c =
 pub next-end-spec : {M : Type 1} → call.Statement.statement M
 next-end-spec =
     call.Tie.close
-    (call.Tie.spec Inv-loop μ-loop (λ c κs. search needs) (λ c. c .skip-windows .ensures) (λ c. search needs) returns (λ c. search needs) (λ c. search needs) loop-again returns-2)
+    (call.Tie.spec Inv-loop μ-loop (λ c κs. search needs) (λ c. c .skip-windows .ensures) (λ c. search needs) returns
+    (λ c. search needs) (λ c. search needs) loop-again returns-2)

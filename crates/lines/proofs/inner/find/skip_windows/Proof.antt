@@ -32,5 +32,6 @@ loop-again c =
 pub skip-windows-spec : {M : Type 1} → call.Statement.statement M
 skip-windows-spec =
     call.Tie.close
-    (call.Tie.spec Inv-loop μ-loop (λ c. (refl, omega arith)) (λ c. search needs) (λ c. search needs) (λ c. search needs) (λ c. search needs) (λ c. search needs) (λ c κs. search needs)
+    (call.Tie.spec Inv-loop μ-loop (λ c. (refl, omega arith)) (λ c. search needs) (λ c. search needs)
+    (λ c. search needs) (λ c. search needs) (λ c. search needs) (λ c κs. search needs)
     (λ c. search needs) loop-again (λ c. c .before .before .before .before .loop .inv) (λ c. c .before .loop .inv))

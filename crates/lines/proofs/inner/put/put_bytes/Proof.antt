@@ -40,5 +40,6 @@ returns c =
 pub put-bytes-spec : {M : Type 1} → call.Statement.statement M
 put-bytes-spec =
     call.Tie.close
-    (call.Tie.spec Inv-loop μ-loop (λ c. (refl, omega arith, refl)) (λ c. search needs) (λ c. search needs) (λ c. search needs) (λ c. search needs) (λ c. search needs)
+    (call.Tie.spec Inv-loop μ-loop (λ c. (refl, omega arith, refl)) (λ c. search needs) (λ c. search needs)
+    (λ c. search needs) (λ c. search needs) (λ c. search needs)
     loop-again (λ c. c .before .loop .inv .2) returns)

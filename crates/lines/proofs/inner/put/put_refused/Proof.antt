@@ -24,8 +24,10 @@ returns c =
     let out = now (word .before .before .before .before .args .out) in
     let k = number .result in
     let two = joined out 0 8 refusedWord (decimal k) (word .put-bytes .ensures) refl (count .put-count .ensures .1) in
-    let end : count .put-count .result ≡ length (refusedWord ++ decimal k) = omega (arith, count .put-count .ensures .0) in
-    let line = joined out 0 (count .put-count .result) (refusedWord ++ decimal k) (10 ∷ []) two (omega (arith, end)) refl in
+    let end : count .put-count .result ≡ length (refusedWord ++ decimal k) =
+    omega (arith, count .put-count .ensures .0) in
+    let line =
+    joined out 0 (count .put-count .result) (refusedWord ++ decimal k) (10 ∷ []) two (omega (arith, end)) refl in
     let long = length-append (decimal k) (10 ∷ []) in
     rw (sym (number .ensures)) (omega (arith, end), line)
 
