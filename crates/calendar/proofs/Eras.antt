@@ -1,4 +1,4 @@
--- Every year is a natural year less so many eras of 400 years, and neither the calendar nor the formula tells eras
+-- Every year is a natural year less a number of eras of 400 years, and neither the calendar nor the formula tells eras
 -- apart. So a day of any year is counted in naturals.
 use Prim.Native.Nat.{ℕ, zero, suc, _+_, _-_, _*_, _/_, _%_, _≤_}
 use mathlib.Core.Path.{_≡_, refl, ap, sym, _∙_}

@@ -1,4 +1,4 @@
--- The nanoseconds of so many days are a signed 64-bit number exactly for 106,751 days, onward or back, and fewer.
+-- The nanoseconds of a number of days fit a signed 64-bit number exactly up to 106,751 days, onward or back.
 use mathlib.Core.Path.{_≡_, sym, ap, subst, _∙_}
 use mathlib.Core.Bool.{true, false}
 use Prim.Native.Nat.{ℕ, suc, _+_, _*_, _≤_, _<_, _^_}

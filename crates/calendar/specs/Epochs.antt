@@ -18,7 +18,7 @@ epochOf Glonass = on (pos 1996) 1 1
 epochOf Galileo = on (pos 1999) 8 22
 epochOf Beidou = on (pos 2006) 1 1
 
--- from one epoch to another, in a unit of which a day has so many
+-- from one epoch to another, in a unit of which a day has `unit`
 abbrev pub spanning : Epoch → Epoch → ℕ → ℤ
 spanning a b unit = daysBetween (epochOf a) (epochOf b) *ℤ pos unit
 

@@ -26,13 +26,13 @@ pub record InYear (n y k : ℕ) : Type 0 where
   pub begun : daysInYears y + k ≡ n
   pub ahead : n < daysInYears (suc y)
 
--- day k of a year lies in its month m
+-- day k of a year is in its month m
 pub record InMonth (k m : ℕ) : Type 0 where
   pub few : m < 12
   pub begun : monthStart m ≤ k
   pub ahead : k < monthStart (suc m)
 
--- the number of 1970-01-01 among the days that are counted, from 1 on, from so many eras before 0000-03-01
+-- the number of 1970-01-01 where the first of the days from `eras` eras before 0000-03-01 on has number 1
 abbrev pub epochNumber : ℕ → ℕ
 epochNumber eras = 146097 * eras + 719469
 

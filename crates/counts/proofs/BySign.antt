@@ -1,5 +1,5 @@
--- A signed number turned round by the machine: one more than it, then 0 less that, then one more again. The least
--- number has no other way.
+-- A signed number negated by the machine: one more than it, then 0 less that, then one more again. The least number
+-- can be negated in no other way.
 use mathlib.Core.Path.{_≡_, refl, sym, ap, _∙_}
 use mathlib.Core.Bool.{true, false}
 use Prim.Native.Nat.{ℕ, zero, suc, _+_, _<_, _^_}

@@ -1,4 +1,4 @@
--- How the scales lie to each other and to the week.
+-- TAI − GPS, and the weekday of a GLONASS count.
 use Prim.Native.Nat.{ℕ, _+_, _*_, _/_, _%_}
 use Rattle.counts.specs.Units.{second, daySeconds}
 

@@ -66,7 +66,7 @@ digits-after (b ∷ bs) v k d =
 pub digits-of-value : (bs : List ℕ) → allDigits bs ≡ true → inDigits (length bs) (valueOf bs) ≡ bs
 digits-of-value bs d = rw zero-add at (digits-after bs 0 0 d)
 
--- the value of so many digits
+-- the value of k digits, and then of bs
 pub value-below : (bs : List ℕ) (v k : ℕ) → allDigits bs ≡ true → v < 10 ^ k → valueFrom v bs < 10 ^ (k + length bs)
 value-below [] v k d h = rw add-zero h
 value-below (b ∷ bs) v k d h =

@@ -1,4 +1,4 @@
--- The quarters of so many years, and the hundreds and four hundreds among them, are the days before the year.
+-- The years before, with their fourths, hundredths and four-hundredths, count the days before the year.
 use Prim.Native.Nat.{ℕ, _+_, _-_, _*_, _/_, _≤_}
 use mathlib.Core.Path.{_≡_}
 use native.Mathlib.Omega.{arith}

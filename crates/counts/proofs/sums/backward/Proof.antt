@@ -1,5 +1,4 @@
--- `backward`: below 2 ^ 63 the number is turned round and one taken away, which ends at the least
--- number.
+-- `backward`: below 2 ^ 63 the number is negated and one is taken away, which ends at the least number.
 use mathlib.Core.Path.{_≡_, refl, sym, ap, _∙_}
 use Prim.Native.Nat.{ℕ, zero, suc, _<_, _^_}
 use native.Mathlib.Omega.{arith}

@@ -1,4 +1,4 @@
--- `by_sign`: below 0 the number is turned round, else it is kept.
+-- `by_sign`: below 0 the number is negated, else it is kept.
 use native.Mathlib.Omega.{arith}
 use Rattle.counts.proofs.BySign.{Turned, turned, Kept, kept}
 use Rattle.counts.proofs.sums.by_sign as call

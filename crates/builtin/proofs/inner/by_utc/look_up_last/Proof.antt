@@ -1,4 +1,4 @@
--- `inner::by_utc::look_up_last` is told by the number of events that the count is a second past.
+-- `inner::by_utc::look_up_last`: the number of events that the count is a second past tells the entry.
 use mathlib.Core.Path.{_≡_, sym, ap, _∙_}
 use Prim.Native.Nat.{_+_}
 use native.Mathlib.Omega.{arith}

@@ -1,4 +1,4 @@
--- `inner::lookup::look_up` is told by the number of events passed.
+-- `inner::lookup::look_up`: the number of events that the reading has passed tells the entry.
 use mathlib.Core.Path.{_≡_, sym, ap, _∙_}
 use Prim.Native.Nat.{_+_}
 use native.Mathlib.Omega.{arith}
