@@ -25,8 +25,7 @@ fieldsOn d s n = fields (d .year) (d .month) (d .day) (s % units.daySeconds / 36
 -- the fields of a count
 abbrev pub fieldsOf : ℕ → CivilDateTime
 fieldsOf n =
-    fieldsOn (calendar.dateOf (pos (n / units.second / units.daySeconds + utcEpochDay))) (n / units.second)
-    (n % units.second)
+    fieldsOn (calendar.dateOf (pos (n / units.second / units.daySeconds + utcEpochDay))) (n / units.second) (n % units.second)
 
 -- the nanoseconds of the time of day, whatever its fields
 abbrev pub timeOf : CivilDateTime → ℕ

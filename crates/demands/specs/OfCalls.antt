@@ -21,8 +21,8 @@ use Rattle.images.proofs.table.utc_from_gps.Reads as image-utc-from-gps
 use Rattle.images.proofs.table.gps_from_utc.Reads as image-gps-from-utc
 use Rattle.builtin.proofs.gps_to_utc.Reads as builtin-gps-to-utc
 use Rattle.builtin.proofs.utc_to_gps.Reads as builtin-utc-to-gps
-use Rattle.plaitgate.proofs.by_table.plaitgate_table_gps_to_utc.Reads as host-gps-to-utc
-use Rattle.plaitgate.proofs.by_table.plaitgate_table_utc_to_gps.Reads as host-utc-to-gps
+use Rattle.plaitgate.proofs.by_table.plaitgate_table_gps_to_utc.Reads as host-to-utc
+use Rattle.plaitgate.proofs.by_table.plaitgate_table_utc_to_gps.Reads as host-to-gps
 use Rattle.plaitgate.proofs.by_builtin.plaitgate_builtin_gps_to_utc.Reads as host-builtin-gps-to-utc
 use Rattle.plaitgate.proofs.by_builtin.plaitgate_builtin_utc_to_gps.Reads as host-builtin-utc-to-gps
 use Rattle.demands.specs.TwoInstants.{TwoInstants}
@@ -61,10 +61,8 @@ pub record Demand3 : Type 0 where
       (λ u. Allows builtin-utc-to-gps.Post (λ κ a. a .0 .0 ≡ u) (λ κ r e. gpsIn r))
   -- `plaitgate_table_gps_to_utc` and `plaitgate_table_utc_to_gps`, by an image
   pub exported : (b : List ℕ) → length b ≡ imageBytes → Regular (tableIn b) → TwoInstantsOf (entriesOf (tableIn b))
-      (λ g. Allows host-gps-to-utc.Post (λ κ a. (a .0 ≡ g) × (now (a .1 .0) ≡ b))
-      (λ κ k e. unless k (now (e .1 .1 .0))))
-      (λ u. Allows host-utc-to-gps.Post (λ κ a. (a .0 ≡ u) × (now (a .1 .0) ≡ b))
-      (λ κ k e. unless k (now (e .1 .1 .0))))
+      (λ g. Allows host-to-utc.Post (λ κ a. (a .0 ≡ g) × (now (a .1 .0) ≡ b)) (λ κ k e. unless k (now (e .1 .1 .0))))
+      (λ u. Allows host-to-gps.Post (λ κ a. (a .0 ≡ u) × (now (a .1 .0) ≡ b)) (λ κ k e. unless k (now (e .1 .1 .0))))
   -- `plaitgate_builtin_gps_to_utc` and `plaitgate_builtin_utc_to_gps`
   pub exported-built-in : TwoInstantsOf builtin
       (λ g. Allows host-builtin-gps-to-utc.Post (λ κ a. a .0 ≡ g) (λ κ k e. unless k (now (e .1 .0))))
