@@ -66,7 +66,7 @@ module _ {M : Type 1} (𝓤 : URA M) (H : Heap 𝓤) (A : Atoms 𝓤) (W : Given
         (and-then ! (held ! 5 refl) (arg ! 9 refl)) (λ r is g.
         let parts = struct.owed X.the-type X.Laws.the-laws r _ g in
         lands-at ! 6 refl (a-growth .typed W r g) $
-        -- the table, 8 bytes into what the call made, is stored behind the reference
+        -- the table, 8 bytes into what the call made, is stored through the reference
         assigns ! (of-opd ! (load ! (from ! (fld ! {d = 8} refl (stop !)))
         (look-in ! 6 (sub ! 1 {d = 8} refl (whole !))))) (from ! (hop ! (look ! 10 refl) (stop !)))
         (store-raw ! 0 refl (a-table .typed W (r .table) (parts .1 .0))) $
