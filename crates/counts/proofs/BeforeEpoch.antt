@@ -1,4 +1,4 @@
--- A Unix number less the offset of the UTC epoch: no count where it lies before that epoch.
+-- A Unix number less the offset of the UTC epoch: no count where it is before that epoch.
 use mathlib.Core.Path.{_≡_, refl, sym, ap, _∙_}
 use Prim.Native.Nat.{ℕ, zero, suc, _+_, _-_, _*_, _≤_, _<_}
 use native.Mathlib.Omega.{arith}

@@ -16,7 +16,7 @@ use Rattle.tables.specs.Entries.{Entry, threshold}
 abbrev pub Converts : ℕ → (ℕ → Outcome ℕ) → ℕ → ℕ → Type 0
 Converts first there n u = (first ≤ n) × (n < 2 ^ 64) × (there n ≡ answered u)
 
--- the TAI reading t lies in the first second from the threshold of an entry after the first
+-- the TAI reading t is in the first second from the threshold of an entry after the first
 abbrev pub InFirstSecond : List Entry → ℕ → Type 0
 InFirstSecond es t = (e : Entry) × List·Memᴰ e (drop 1 es) × (threshold e ≤ t) × (t < threshold e + second)
 
@@ -29,7 +29,7 @@ pub record TwoInstants (es : List Entry) (lead first : ℕ) (there back : ℕ �
   -- which converts back exactly.
   pub converts-back : (u n : ℕ) → u < 2 ^ 64 → back u ≡ answered n → Converts first there n u
   -- Two different counts of the scale that both convert share a UTC count exactly if they are one second apart and the
-  -- later one's TAI reading lies in the first second from the threshold of an entry after the first.
+  -- later one's TAI reading is in the first second from the threshold of an entry after the first.
   pub shared-exactly : (n₁ n₂ u₁ u₂ : ℕ) → Converts first there n₁ u₁ → Converts first there n₂ u₂ → n₁ < n₂
       → (u₁ ≡ u₂) ↔ ((n₂ ≡ n₁ + second) × InFirstSecond es (n₂ + lead))
   -- No three share one.

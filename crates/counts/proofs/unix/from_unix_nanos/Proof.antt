@@ -1,4 +1,4 @@
--- `from_unix_nanos`: a number below 0 lies before the UTC epoch, and of any other the offset is
+-- `from_unix_nanos`: a number below 0 is before the UTC epoch, and of any other the offset is
 -- taken.
 use mathlib.Core.Path.{_≡_, sym, ap, _∙_}
 use native.Mathlib.Omega.{arith}

@@ -1,4 +1,4 @@
--- `from_unix_seconds`: a number below the offset lies before the UTC epoch, and of any other the
+-- `from_unix_seconds`: a number below the offset is before the UTC epoch, and of any other the
 -- offset is taken.
 use mathlib.Core.Path.{_≡_, ap, _∙_}
 use native.Mathlib.Omega.{arith}
