@@ -49,7 +49,9 @@ enum plaitgate_refusal {
     /* the offset used last is below -2147483629 */
     PLAITGATE_OFFSET_RANGE = 9,
     /* a program's line breaks its form; no function here gives it */
-    PLAITGATE_BAD_LINE = 10
+    PLAITGATE_BAD_LINE = 10,
+    /* nanoseconds of 1000000000 or more: they make a second */
+    PLAITGATE_INVALID_NANOS = 11
 };
 
 /* every scale, by tools/write-scales */

@@ -89,6 +89,9 @@ refusals! {
     10 BadLine:
         "a program's line breaks its form. No call of this crate gives it.",
         "the line breaks its form";
+    11 InvalidNanos:
+        "the nanoseconds of a second reach 1,000,000,000.",
+        "the nanoseconds are out of range: a second has 1,000,000,000";
 }
 
 /// What a call that may refuse gives back.

@@ -20,6 +20,7 @@ numbered k =
     refusal.BadTable ∷
     refusal.OffsetRange ∷
     refusal.BadLine ∷
+    refusal.InvalidNanos ∷
     [])
     (k - 1)
     refusal.Overflow
@@ -36,3 +37,4 @@ numbered-again refusal.OffsetOverflow = refl
 numbered-again refusal.BadTable = refl
 numbered-again refusal.OffsetRange = refl
 numbered-again refusal.BadLine = refl
+numbered-again refusal.InvalidNanos = refl

@@ -14,3 +14,4 @@ numberOf refusal.OffsetOverflow = 7
 numberOf refusal.BadTable = 8
 numberOf refusal.OffsetRange = 9
 numberOf refusal.BadLine = 10
+numberOf refusal.InvalidNanos = 11

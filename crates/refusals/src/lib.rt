@@ -24,6 +24,8 @@ pub enum Refusal {
     OffsetRange,
     // a program's line that breaks its form
     BadLine,
+    // nanoseconds that make a second or more
+    InvalidNanos,
 }
 
 impl Refusal {
@@ -42,6 +44,7 @@ impl Refusal {
             Refusal::BadTable => 8,
             Refusal::OffsetRange => 9,
             Refusal::BadLine => 10,
+            Refusal::InvalidNanos => 11,
         }
     }
 }
