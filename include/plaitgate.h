@@ -216,8 +216,8 @@ uint32_t plaitgate_tai_limits(uint64_t *epoch, uint64_t *min, uint64_t *max, uin
 
 /* ---- GPS alone ---- */
 
-/* The GPS count of a week since the epoch and a time of week. Refuses with 2 where seconds reach 604800 or nanos
-   reach 1000000000; else with 1 where the count is above 64 bits, which begins in week 30500. */
+/* The GPS count of a week since the epoch and a time of week. Refuses with 2 where seconds reach 604800, else with 11
+   where nanos reach 1000000000, else with 1 where the count is above 64 bits, which begins in week 30500. */
 uint32_t plaitgate_gps_from_week_tow(uint32_t week, uint64_t seconds, uint32_t nanos, uint64_t *count);
 
 /* The week since the epoch of a GPS count, 0 to 30500. Does not refuse. */
@@ -253,8 +253,8 @@ uint32_t plaitgate_utc_as_unix_nanos(uint64_t count, int64_t *nanos);
 
 /* ---- GLONASS alone ---- */
 
-/* The GLONASS count of a day since the epoch and a time of day. Refuses with 2 where seconds reach 86400 or nanos
-   reach 1000000000; else with 1 where the count is above 64 bits, which begins in day 213503. */
+/* The GLONASS count of a day since the epoch and a time of day. Refuses with 2 where seconds reach 86400, else with 11
+   where nanos reach 1000000000, else with 1 where the count is above 64 bits, which begins in day 213503. */
 uint32_t plaitgate_glonass_from_day_tod(uint32_t day, uint64_t seconds, uint32_t nanos, uint64_t *count);
 
 /* The day since the epoch of a GLONASS count, 0 to 213503. Does not refuse. */
@@ -274,7 +274,7 @@ uint32_t plaitgate_glonass_is_weekend(uint64_t count, uint8_t *yes);
 
 /* ---- Durations ---- */
 
-/* Whole seconds and nanoseconds as they are given. Refuses with 2 where nanos reach 1000000000. */
+/* Whole seconds and nanoseconds as they are given. Refuses with 11 where nanos reach 1000000000. */
 uint32_t plaitgate_duration_parts_new(uint64_t seconds, uint32_t nanos, uint64_t *parts_seconds,
                                       uint32_t *parts_nanos);
 

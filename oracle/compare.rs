@@ -2,6 +2,7 @@
 
 use crate::call::{Call, Written};
 use crate::chance::Chance;
+use std::collections::BTreeMap;
 use std::panic;
 use std::sync::atomic::{AtomicBool, Ordering};
 
@@ -9,7 +10,8 @@ use std::sync::atomic::{AtomicBool, Ordering};
 #[derive(Default)]
 pub struct Tally {
     pub comparisons: u64,
-    pub refusals: u64,
+    /// How often the port gave each number.
+    pub refusals: BTreeMap<u32, u64>,
     pub panics: u64,
     pub differences: u64,
     /// The first differences, as text.
@@ -68,7 +70,9 @@ impl Tally {
         let port = (call.port)(inputs);
         self.comparisons += 1;
         self.panics += u64::from(due.panicked);
-        self.refusals += u64::from(port.refusal != 0);
+        if port.refusal != 0 {
+            *self.refusals.entry(port.refusal).or_default() += 1;
+        }
         if due.written.as_ref() != Some(&port) {
             self.differences += 1;
             if self.shown.len() < DIFFERENCES_SHOWN {

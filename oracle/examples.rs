@@ -80,6 +80,13 @@ const EXAMPLES: &[Example] = &[
     ("gps_from_week_tow", &[0, 604_800, 0], Err(2)),
     ("gps_from_week_tow", &[30_501, 604_800, 0], Err(2)),
     ("gps_from_week_tow", &[u32::MAX as i128, 604_800, 0], Err(2)),
+    // the first field that is out of range, before a count that is
+    ("gps_from_week_tow", &[0, 604_799, SECOND], Err(11)),
+    ("gps_from_week_tow", &[0, 604_800, SECOND], Err(2)),
+    ("gps_from_week_tow", &[u32::MAX as i128, 604_799, SECOND], Err(11)),
+    ("glonass_from_day_tod", &[0, 86_400, SECOND], Err(2)),
+    ("glonass_from_day_tod", &[u32::MAX as i128, 86_399, SECOND], Err(11)),
+    ("duration_parts_new", &[LAST, SECOND], Err(11)),
     ("glonass_day_of_week", &[0], Ok(&[1])),
 ];
 

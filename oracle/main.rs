@@ -22,6 +22,7 @@ mod questions;
 mod record;
 mod slips;
 
+use std::collections::BTreeMap;
 use std::process::ExitCode;
 
 const USAGE: &str = "\
@@ -91,18 +92,30 @@ fn run(calls: &[call::Call], seed: u64, count: u64) -> ExitCode {
     println!("{:<32} {:>11} {:>11} {:>16}", "call", "comparisons", "refusals", "crate panicked");
     let mut comparisons = 0;
     let mut differences = 0;
+    let mut refusals: BTreeMap<u32, u64> = BTreeMap::new();
     for call in calls {
         let tally = compare::compare(call, seed, count);
-        println!("{:<32} {:>11} {:>11} {:>16}", call.name, tally.comparisons, tally.refusals, tally.panics);
+        let refused: u64 = tally.refusals.values().sum();
+        println!("{:<32} {:>11} {:>11} {:>16}", call.name, tally.comparisons, refused, tally.panics);
         for shown in &tally.shown {
             println!("DIFFERENCE {shown}");
         }
         comparisons += tally.comparisons;
         differences += tally.differences;
+        for (number, times) in tally.refusals {
+            *refusals.entry(number).or_default() += times;
+        }
     }
     if differences > 0 {
         return failed(&format!("{differences} differences in {comparisons} comparisons"));
     }
+    let each: Vec<String> = refusals.iter().map(|(number, times)| format!("{number}: {times}")).collect();
+    println!("oracle: how often each refusal came, by number: {}", each.join(", "));
+    let [seconds, nanos] = original::INVALID_INPUT.map(|number| refusals.get(&number).copied().unwrap_or(0));
+    if seconds == 0 || nanos == 0 {
+        return failed("the crate's InvalidInput did not come for both fields");
+    }
+    println!("oracle: the crate's InvalidInput: {seconds} times for the seconds (2), {nanos} for the nanoseconds (11)");
     println!("oracle: {} examples, answered alike by both", examples::COUNT);
     println!("oracle: {} slips, each wrong where the port is right", slips::COUNT);
     println!("oracle: {} sentences of docs/DIFFERENCES.md, true of the crate", differences::count());

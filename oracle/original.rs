@@ -10,11 +10,23 @@ pub trait Answer {
 }
 
 const OVERFLOW: u32 = 1;
-const INVALID_INPUT: u32 = 2;
+const INVALID_SECONDS: u32 = 2;
+const INVALID_NANOS: u32 = 11;
+/// What the crate's one error `InvalidInput` is here.
+pub const INVALID_INPUT: [u32; 2] = [INVALID_SECONDS, INVALID_NANOS];
 /// Given for what the crate has no error for: bytes that hold no table that it would take.
 pub const BAD_TABLE: u32 = 8;
 /// An error that the rules have no number for. No call of the port gives it, so it shows as a difference.
 const UNNUMBERED: u32 = u32::MAX;
+
+/// Which of the two it is: the crate's text begins with the field.
+fn invalid_field(text: &str) -> u32 {
+    match text.split(' ').next() {
+        Some("tow.seconds" | "tod.seconds") => INVALID_SECONDS,
+        Some("tow.nanos" | "tod.nanos" | "nanos") => INVALID_NANOS,
+        _ => UNNUMBERED,
+    }
+}
 
 pub fn refusal_of(error: LeapExtendError) -> u32 {
     match error {
@@ -45,7 +57,7 @@ impl<A: Answer> Answer for Result<A, GnssTimeError> {
         match self {
             Ok(answer) => answer.outcome(),
             Err(GnssTimeError::Overflow) => Err(OVERFLOW),
-            Err(GnssTimeError::InvalidInput(_)) => Err(INVALID_INPUT),
+            Err(GnssTimeError::InvalidInput(text)) => Err(invalid_field(text)),
             Err(_) => Err(UNNUMBERED),
         }
     }

@@ -187,14 +187,14 @@ pub struct DurationParts {
 impl DurationParts {
     pub const NANOS_PER_SECOND: u32 = 1_000_000_000;
 
-    /// Seconds and nanoseconds as they are given. Refuses with [`InvalidInput`](crate::Error::InvalidInput) where the
+    /// Seconds and nanoseconds as they are given. Refuses with [`InvalidNanos`](crate::Error::InvalidNanos) where the
     /// nanoseconds reach a second.
     ///
     /// ```
     /// use plaitgate::{DurationParts, Error};
     ///
     /// assert_eq!(DurationParts::new(5, 7), Ok(DurationParts { seconds: 5, nanos: 7 }));
-    /// assert_eq!(DurationParts::new(5, 1_000_000_000), Err(Error::InvalidInput));
+    /// assert_eq!(DurationParts::new(5, 1_000_000_000), Err(Error::InvalidNanos));
     /// ```
     pub fn new(seconds: u64, nanos: u32) -> Result<Self> {
         sys::duration_parts_new(seconds, nanos).map(|(seconds, nanos)| DurationParts { seconds, nanos })

@@ -5,7 +5,8 @@ use crate::{DurationParts, Glonass, Result};
 
 impl Glonass {
     /// The count of a day and a time of that day. Refuses with [`InvalidInput`](crate::Error::InvalidInput) from
-    /// 86,400 s or 1,000,000,000 ns on, and with [`Overflow`](crate::Error::Overflow) above 64 bits.
+    /// 86,400 s on, else with [`InvalidNanos`](crate::Error::InvalidNanos) from 1,000,000,000 ns on, else with
+    /// [`Overflow`](crate::Error::Overflow) above 64 bits.
     pub fn from_day_tod(day: u32, tod: DurationParts) -> Result<Self> {
         sys::glonass_from_day_tod(day, tod.seconds, tod.nanos).map(Glonass)
     }

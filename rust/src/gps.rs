@@ -5,7 +5,17 @@ use crate::{gps_to_utc, DurationParts, Gps, LeapSeconds, LeapSecondsProvider, Re
 
 impl Gps {
     /// The count of a week and a time of that week. Refuses with [`InvalidInput`](crate::Error::InvalidInput) from
-    /// 604,800 s or 1,000,000,000 ns on, and with [`Overflow`](crate::Error::Overflow) above 64 bits.
+    /// 604,800 s on, else with [`InvalidNanos`](crate::Error::InvalidNanos) from 1,000,000,000 ns on, else with
+    /// [`Overflow`](crate::Error::Overflow) above 64 bits.
+    ///
+    /// ```
+    /// use plaitgate::{DurationParts, Error, Gps};
+    ///
+    /// let keyed_in = |seconds, nanos| Gps::from_week_tow(2345, DurationParts { seconds, nanos });
+    /// assert_eq!(keyed_in(604_800, 0), Err(Error::InvalidInput));
+    /// assert_eq!(keyed_in(604_799, 1_000_000_000), Err(Error::InvalidNanos));
+    /// assert!(keyed_in(604_799, 999_999_999).is_ok());
+    /// ```
     pub fn from_week_tow(week: u32, tow: DurationParts) -> Result<Self> {
         sys::gps_from_week_tow(week, tow.seconds, tow.nanos).map(Gps)
     }

@@ -2,7 +2,7 @@
 
 use plaitgate::{
     glonass_to_utc, utc_to_glonass, CivilDate, CivilDateTime, Duration, DurationParts, Error, Glonass, GnssTimeError,
-    Gps, LeapSeconds, Tai, Time, Utc, UNIX_EPOCH, UTC_EPOCH_UNIX_OFFSET_NS, UTC_EPOCH_UNIX_OFFSET_S,
+    Gps, LeapSeconds, Result, Tai, Time, Utc, UNIX_EPOCH, UTC_EPOCH_UNIX_OFFSET_NS, UTC_EPOCH_UNIX_OFFSET_S,
 };
 
 /// The same for each scale: they share no type, so that it is said by a macro.
@@ -167,12 +167,22 @@ fn unix_time_at_its_ends() {
 #[test]
 fn times_of_a_week_or_a_day_that_are_out_of_range() {
     let parts = |seconds, nanos| DurationParts { seconds, nanos };
-    assert_eq!(Gps::from_week_tow(0, parts(604_799, 1_000_000_000)), Err(Error::InvalidInput));
-    assert_eq!(Gps::from_week_tow(u32::MAX, parts(0, 0)), Err(Error::Overflow));
-    assert_eq!(Glonass::from_day_tod(0, parts(86_400, 0)), Err(Error::InvalidInput));
-    assert_eq!(Glonass::from_day_tod(0, parts(0, 1_000_000_000)), Err(Error::InvalidInput));
-    assert_eq!(Glonass::from_day_tod(u32::MAX, parts(0, 0)), Err(Error::Overflow));
+    let week = |whole, seconds, nanos| Gps::from_week_tow(whole, parts(seconds, nanos)).map(Gps::as_nanos);
+    let day = |whole, seconds, nanos| Glonass::from_day_tod(whole, parts(seconds, nanos)).map(Glonass::as_nanos);
+    let calls: [(&dyn Fn(u32, u64, u32) -> Result<u64>, u64); 2] = [(&week, 604_800), (&day, 86_400)];
+    for (call, unit) in calls {
+        for whole in [0, u32::MAX] {
+            assert_eq!(call(whole, unit, 0), Err(Error::InvalidInput));
+            assert_eq!(call(whole, unit, 1_000_000_000), Err(Error::InvalidInput));
+            assert_eq!(call(whole, u64::MAX, u32::MAX), Err(Error::InvalidInput));
+            assert_eq!(call(whole, unit - 1, 1_000_000_000), Err(Error::InvalidNanos));
+            assert_eq!(call(whole, 0, u32::MAX), Err(Error::InvalidNanos));
+        }
+        assert_eq!(call(u32::MAX, 0, 0), Err(Error::Overflow));
+        assert_eq!(call(0, unit - 1, 999_999_999), Ok(unit * 1_000_000_000 - 1));
+    }
     assert_eq!(DurationParts::new(u64::MAX, 999_999_999), Ok(parts(u64::MAX, 999_999_999)));
+    assert_eq!(DurationParts::new(u64::MAX, 1_000_000_000), Err(Error::InvalidNanos));
 }
 
 #[test]
@@ -189,14 +199,20 @@ fn dates_that_are_not_in_the_calendar_and_dates_that_are_refused() {
 
 #[test]
 fn each_refusal_has_its_number() {
-    for number in 0..=20 {
+    // tools/check-refusals holds the names to README's table; here: they are 1 to a last one, and no others
+    let named = |number: &u32| !matches!(Error::from(*number), Error::Other(_));
+    let last = (1..).take_while(named).count() as u32;
+    assert!(last > 0);
+    for number in (0..1000).chain([u32::MAX]) {
         let why = Error::from(number);
         assert_eq!(why.number(), number);
-        assert_eq!(matches!(why, Error::Other(_)), !(1..=10).contains(&number));
+        assert_eq!(named(&number), (1..=last).contains(&number));
         assert!(!why.to_string().is_empty());
     }
     let boxed: Box<dyn std::error::Error> = Box::new(Error::BadTable);
     assert_eq!(boxed.to_string(), "the bytes hold no valid table");
+    // which field, and its limit
+    assert!(Error::InvalidNanos.to_string().contains("nanoseconds are out of range: a second has 1,000,000,000"));
 }
 
 /// Written as for gnss-time; only the import is another.

@@ -24,13 +24,13 @@ unixOffset = 63_072_000
 abbrev pub partsOf : ℕ → DurationParts
 partsOf n = record { seconds = n / second; nanos = n % second }
 
--- parts whose nanoseconds are less than a second: else 2
+-- parts whose nanoseconds are less than a second: else 11
 abbrev pub partsFrom : ℕ → ℕ → Outcome DurationParts
-partsFrom s n = cond (leb second n) (refused 2) (answered (record { seconds = s; nanos = n }))
+partsFrom s n = cond (leb second n) (refused 11) (answered (record { seconds = s; nanos = n }))
 
 -- the count of `whole` units and the rest of one, a unit being `unit` seconds: 2 where the rest's seconds make a unit,
--- 2 where its nanoseconds make a second, 1 where the sum is no count
+-- else 11 where its nanoseconds make a second, else 1 where the sum is no count
 abbrev pub ofUnits : ℕ → ℕ → ℕ → ℕ → Outcome ℕ
 ofUnits unit whole s n =
     cond (leb unit s) (refused 2)
-    (cond (leb second n) (refused 2) (countOf (pos ((whole * unit + s) * second + n))))
+    (cond (leb second n) (refused 11) (countOf (pos ((whole * unit + s) * second + n))))

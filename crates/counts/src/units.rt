@@ -63,7 +63,7 @@ impl DurationParts {
         ensures { λ r. ⌜ partsIn r ≡ partsFrom seconds nanos ⌝ }
     {
         if NANOS_PER_SECOND <= nanos as u64 {
-            PartsAnswer::Refused(Refusal::InvalidInput)
+            PartsAnswer::Refused(Refusal::InvalidNanos)
         } else {
             PartsAnswer::Parts(DurationParts { seconds, nanos })
         }
@@ -81,7 +81,7 @@ pub fn of_units(unit_seconds: u32, whole: u32, rest: DurationParts) -> CountAnsw
         return CountAnswer::Refused(Refusal::InvalidInput);
     }
     if NANOS_PER_SECOND <= nanos {
-        return CountAnswer::Refused(Refusal::InvalidInput);
+        return CountAnswer::Refused(Refusal::InvalidNanos);
     }
     from_seconds_and((whole as u64) * unit + seconds, nanos)
 }

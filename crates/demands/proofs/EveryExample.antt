@@ -26,4 +26,4 @@ unfolding builtin events thresholdOf entriesFrom formula era yoe doy doe neighbo
 every-example week =
     refl also refl also refl also refl also refl also refl also refl also refl also refl also refl also
     refl also refl also refl also refl also refl also refl also refl also ap (at 23 34 33 709_551_615) last-day also
-    refl also refl also refl also refl also refl also refl also refl also none-left
+    refl also refl also refl also refl also refl also refl also refl also refl also refl also none-left

@@ -56,6 +56,8 @@ examples week =
     ofUnits weekSeconds 30_500 344_073 709_551_615 is answered 18_446_744_073_709_551_615 ∷
     ofUnits weekSeconds 30_500 344_073 709_551_616 is refused 1 ∷
     ofUnits weekSeconds week 604_800 0 is refused 2 ∷
+    ofUnits weekSeconds week 604_800 1_000_000_000 is refused 2 ∷
+    ofUnits weekSeconds week 604_799 1_000_000_000 is refused 11 ∷
     -- thresholds exactly a day apart, and a nanosecond less
     regular (entry 0 (pos 19) ∷ entry 86_400_000_000_000 (pos 20) ∷ entry 172_800_000_000_000 (pos 21) ∷ []) is true ∷
     regular (entry 0 (pos 19) ∷ entry 86_399_999_999_999 (pos 20) ∷ []) is false ∷
