@@ -32,8 +32,8 @@ enum plaitgate_refusal {
     PLAITGATE_ANSWERED = 0,
     /* the exact result, or a count on the way to it, does not fit its type */
     PLAITGATE_OVERFLOW = 1,
-    /* seconds or nanoseconds of a day, a week or a second out of range */
-    PLAITGATE_INVALID_INPUT = 2,
+    /* seconds of 604800 or more in a week, of 86400 or more in a day */
+    PLAITGATE_INVALID_SECONDS = 2,
     /* a leap-second threshold that is not above the one before */
     PLAITGATE_NOT_STRICTLY_ASCENDING = 3,
     /* an offset that is not one more than the one before */
@@ -50,7 +50,7 @@ enum plaitgate_refusal {
     PLAITGATE_OFFSET_RANGE = 9,
     /* a program's line breaks its form; no function here gives it */
     PLAITGATE_BAD_LINE = 10,
-    /* nanoseconds of 1000000000 or more: they make a second */
+    /* nanoseconds of 1000000000 or more in a second */
     PLAITGATE_INVALID_NANOS = 11
 };
 

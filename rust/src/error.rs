@@ -62,9 +62,9 @@ refusals! {
     1 Overflow:
         "the exact result, or a count on the way to it, does not fit its type.",
         "the result, or a count on the way to it, does not fit its type";
-    2 InvalidInput:
-        "seconds or nanoseconds of a day, a week or a second are out of range.",
-        "seconds or nanoseconds are out of range";
+    2 InvalidSeconds:
+        "the seconds of a week reach 604,800, or those of a day 86,400.",
+        "the seconds are out of range: a week has 604,800, a day 86,400";
     3 NotStrictlyAscending:
         "a threshold is not above the one before.",
         "the threshold is not above the one before";

@@ -4,7 +4,7 @@ use crate::sys::{self, always};
 use crate::{DurationParts, Glonass, Result};
 
 impl Glonass {
-    /// The count of a day and a time of that day. Refuses with [`InvalidInput`](crate::Error::InvalidInput) from
+    /// The count of a day and a time of that day. Refuses with [`InvalidSeconds`](crate::Error::InvalidSeconds) from
     /// 86,400 s on, else with [`InvalidNanos`](crate::Error::InvalidNanos) from 1,000,000,000 ns on, else with
     /// [`Overflow`](crate::Error::Overflow) above 64 bits.
     pub fn from_day_tod(day: u32, tod: DurationParts) -> Result<Self> {

@@ -4,7 +4,7 @@ use crate::sys::{self, always};
 use crate::{gps_to_utc, DurationParts, Gps, LeapSeconds, LeapSecondsProvider, Result, Tai, Utc};
 
 impl Gps {
-    /// The count of a week and a time of that week. Refuses with [`InvalidInput`](crate::Error::InvalidInput) from
+    /// The count of a week and a time of that week. Refuses with [`InvalidSeconds`](crate::Error::InvalidSeconds) from
     /// 604,800 s on, else with [`InvalidNanos`](crate::Error::InvalidNanos) from 1,000,000,000 ns on, else with
     /// [`Overflow`](crate::Error::Overflow) above 64 bits.
     ///
@@ -12,7 +12,7 @@ impl Gps {
     /// use plaitgate::{DurationParts, Error, Gps};
     ///
     /// let keyed_in = |seconds, nanos| Gps::from_week_tow(2345, DurationParts { seconds, nanos });
-    /// assert_eq!(keyed_in(604_800, 0), Err(Error::InvalidInput));
+    /// assert_eq!(keyed_in(604_800, 0), Err(Error::InvalidSeconds));
     /// assert_eq!(keyed_in(604_799, 1_000_000_000), Err(Error::InvalidNanos));
     /// assert!(keyed_in(604_799, 999_999_999).is_ok());
     /// ```

@@ -90,8 +90,8 @@ fn the_last_week() {
     assert_eq!(Gps::from_week_tow(30_500, tow(344_073, 709_551_615)), Ok(Gps::MAX));
     assert_eq!(Gps::from_week_tow(30_500, tow(344_073, 709_551_616)), Err(Error::Overflow));
     for week in [0, 30_500, u32::MAX] {
-        assert_eq!(Gps::from_week_tow(week, tow(604_800, 0)), Err(Error::InvalidInput));
-        assert_eq!(Gps::from_week_tow(week, tow(604_800, 1_000_000_000)), Err(Error::InvalidInput));
+        assert_eq!(Gps::from_week_tow(week, tow(604_800, 0)), Err(Error::InvalidSeconds));
+        assert_eq!(Gps::from_week_tow(week, tow(604_800, 1_000_000_000)), Err(Error::InvalidSeconds));
         assert_eq!(Gps::from_week_tow(week, tow(604_799, 1_000_000_000)), Err(Error::InvalidNanos));
     }
 }

@@ -172,9 +172,9 @@ fn times_of_a_week_or_a_day_that_are_out_of_range() {
     let calls: [(&dyn Fn(u32, u64, u32) -> Result<u64>, u64); 2] = [(&week, 604_800), (&day, 86_400)];
     for (call, unit) in calls {
         for whole in [0, u32::MAX] {
-            assert_eq!(call(whole, unit, 0), Err(Error::InvalidInput));
-            assert_eq!(call(whole, unit, 1_000_000_000), Err(Error::InvalidInput));
-            assert_eq!(call(whole, u64::MAX, u32::MAX), Err(Error::InvalidInput));
+            assert_eq!(call(whole, unit, 0), Err(Error::InvalidSeconds));
+            assert_eq!(call(whole, unit, 1_000_000_000), Err(Error::InvalidSeconds));
+            assert_eq!(call(whole, u64::MAX, u32::MAX), Err(Error::InvalidSeconds));
             assert_eq!(call(whole, unit - 1, 1_000_000_000), Err(Error::InvalidNanos));
             assert_eq!(call(whole, 0, u32::MAX), Err(Error::InvalidNanos));
         }
@@ -212,7 +212,8 @@ fn each_refusal_has_its_number() {
     let boxed: Box<dyn std::error::Error> = Box::new(Error::BadTable);
     assert_eq!(boxed.to_string(), "the bytes hold no valid table");
     // which field, and its limit
-    assert!(Error::InvalidNanos.to_string().contains("nanoseconds are out of range: a second has 1,000,000,000"));
+    assert_eq!(Error::InvalidSeconds.to_string(), "the seconds are out of range: a week has 604,800, a day 86,400");
+    assert_eq!(Error::InvalidNanos.to_string(), "the nanoseconds are out of range: a second has 1,000,000,000");
 }
 
 /// Written as for gnss-time; only the import is another.

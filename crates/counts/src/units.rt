@@ -78,7 +78,7 @@ pub fn of_units(unit_seconds: u32, whole: u32, rest: DurationParts) -> CountAnsw
     let seconds = rest.seconds;
     let nanos = rest.nanos as u64;
     if unit <= seconds {
-        return CountAnswer::Refused(Refusal::InvalidInput);
+        return CountAnswer::Refused(Refusal::InvalidSeconds);
     }
     if NANOS_PER_SECOND <= nanos {
         return CountAnswer::Refused(Refusal::InvalidNanos);

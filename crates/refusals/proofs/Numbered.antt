@@ -11,7 +11,7 @@ unfoldable pub numbered : ℕ → Refusal
 numbered k =
     getD
     (refusal.Overflow ∷
-    refusal.InvalidInput ∷
+    refusal.InvalidSeconds ∷
     refusal.NotStrictlyAscending ∷
     refusal.NonUnitIncrement ∷
     refusal.BufferFull ∷
@@ -28,7 +28,7 @@ numbered k =
 pub numbered-again : (r : Refusal) → numbered (numberOf r) ≡ r
 unfolding numbered
 numbered-again refusal.Overflow = refl
-numbered-again refusal.InvalidInput = refl
+numbered-again refusal.InvalidSeconds = refl
 numbered-again refusal.NotStrictlyAscending = refl
 numbered-again refusal.NonUnitIncrement = refl
 numbered-again refusal.BufferFull = refl

@@ -5,7 +5,7 @@ use Rattle.refusals.specs.declared.Refusal.the-variants as refusal
 
 abbrev pub numberOf : Refusal → ℕ
 numberOf refusal.Overflow = 1
-numberOf refusal.InvalidInput = 2
+numberOf refusal.InvalidSeconds = 2
 numberOf refusal.NotStrictlyAscending = 3
 numberOf refusal.NonUnitIncrement = 4
 numberOf refusal.BufferFull = 5

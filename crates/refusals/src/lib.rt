@@ -6,8 +6,8 @@ ghost use Rattle.refusals.specs.Number.{numberOf};
 pub enum Refusal {
     // the exact result, or a count on the way to it, does not fit its type
     Overflow,
-    // seconds or nanoseconds of a day or week out of range
-    InvalidInput,
+    // seconds of a day or week that make a whole one or more
+    InvalidSeconds,
     // a threshold that is not above the one before
     NotStrictlyAscending,
     // an offset that is not one more than the one before
@@ -35,7 +35,7 @@ impl Refusal {
     {
         match self {
             Refusal::Overflow => 1,
-            Refusal::InvalidInput => 2,
+            Refusal::InvalidSeconds => 2,
             Refusal::NotStrictlyAscending => 3,
             Refusal::NonUnitIncrement => 4,
             Refusal::BufferFull => 5,
