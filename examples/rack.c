@@ -1,7 +1,7 @@
 /*
  * A rack's stamp, in C: a GPS week and second become a count, the count becomes UTC by the built-in table and by one
  * that the rack keeps itself, and the UTC count becomes a civil date and time. The second that was inserted at the
- * end of 2016 shows that one UTC count can name two instants.
+ * end of 2016 shows that one UTC count can name two instants. A refusal tells an operator which field to type again.
  *
  * ./test compiles it with include/plaitgate.h, links the library and compares what it writes with rack.out.
  */
@@ -29,6 +29,26 @@ static void stamp(uint64_t gps)
            gps, year, month, day, hour, minute, second, nanos, back);
 }
 
+/* What an operator keyed in: the stamp, or which field to type again. */
+static void keyed_in(uint32_t week, uint64_t seconds, uint32_t nanos)
+{
+    uint64_t gps;
+
+    switch (plaitgate_gps_from_week_tow(week, seconds, nanos, &gps)) {
+    case PLAITGATE_ANSWERED:
+        stamp(gps);
+        break;
+    case PLAITGATE_INVALID_SECONDS:
+        printf("%" PRIu64 " seconds: a week has 604800\n", seconds);
+        break;
+    case PLAITGATE_INVALID_NANOS:
+        printf("%" PRIu32 " nanoseconds: a second has 1000000000\n", nanos);
+        break;
+    default:
+        printf("week %" PRIu32 ": counts end in week 30500\n", week);
+    }
+}
+
 int main(void)
 {
     uint8_t table[PLAITGATE_IMAGE_BYTES], before[PLAITGATE_IMAGE_BYTES];
@@ -41,6 +61,11 @@ int main(void)
     stamp(gps + UINT64_C(1000000000));
     stamp(gps + UINT64_C(2000000000));
     stamp(UINT64_MAX);
+
+    keyed_in(1930, 604800, 1000000000);
+    keyed_in(1930, 18, 1000000000);
+    keyed_in(30501, 18, 0);
+    keyed_in(1930, 18, 0);
 
     /* a table of the rack's own: the built-in one, extended by an entry that is refused and by one that is taken,
        that of a bulletin that says "from 2035-01-01 on, TAI minus UTC is 38 s" */
