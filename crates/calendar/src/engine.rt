@@ -1,8 +1,11 @@
 // The two directions between a date and its day, each one function, and the steps that they are made of.
 // Years begin here on 1 March, so that a leap day is the last of its year: day 0 is 0000-03-01, and month 0 is March.
 ghost use mathlib.Core.Path.{_≡_};
+ghost use mathlib.Core.Bool.{cond};
 ghost use Prim.Native.Nat.{_+_, _*_, _≤_, _<_, _^_};
+ghost use lib.Dec.{eqb, ltb};
 ghost use lib.IntN.{pos, subℕ};
+ghost use lib.ListN.{getD};
 ghost use Rattle.calendar.specs.Calendar.{on, dateOf};
 ghost use Rattle.calendar.specs.Formula.{dayOf, monthStart};
 ghost use Rattle.calendar.specs.March.{daysInYears, FromMarch, InYear, InMonth, epochNumber, liftEras, Lifted};
@@ -35,6 +38,12 @@ const LIFT_YEARS: i64 = LIFT_ERAS * ERA_YEARS;
 // The day number of 1970-01-01 in lifted years, where 1 March of the first is day 1, as the days of a month count from
 // 1.
 const LIFT_DAYS: i64 = LIFT_ERAS * ERA_DAYS + UNIX_EPOCH_DAY + 1;
+
+// The day on which each month starts, in a year that begins on 1 March: 0 for March, 31 for April, 31 + 30 for May, and
+// so on to February. A leap day is the last of such a year, after all the starts, so they are the same in every year.
+const MONTH_STARTS: [u64; 12] = [0, 31, 61, 92, 122, 153, 184, 214, 245, 275, 306, 337];
+
+const LEAP_YEAR_DAYS: u64 = 366;
 
 // A year that begins in March, and a day of it from 0 on.
 struct YearDay {
@@ -72,8 +81,9 @@ fn days_before_year(year: u64) -> u64
     year * YEAR_QUARTERS / 4 - century + century / 4
 }
 
-// Days before a month: from March on, five months have 31, 30, 31, 30 and 31 days, 153, and then again. A month is so
-// 153 / 5 days on the mean, and 2 more than its fifths, rounded down, give 0, 31, 61, 92, 122, 153 .. 337.
+// Days before a month, by civil.rs's formula: MONTH_STARTS for the twelve, and a number for a month that no calendar has,
+// since a date may have any field. From March on, five months have 31, 30, 31, 30 and 31 days, 153, and then again. A
+// month is so 153 / 5 days on the mean, and 2 more than its fifths, rounded down, give 0, 31, 61, 92, 122, 153 .. 337.
 fn days_before_month(month: u64) -> u64
     requires { ⌜ month < 2 ^ 9 ⌝ }
     ensures { λ r. ⌜ r ≡ monthStart month ⌝ }
@@ -122,13 +132,40 @@ fn year_holding(day: u64) -> YearDay
     }
 }
 
-// The month that holds a day of a year: 5 months in 153 days, with the same 2 over, so that each begins on its first
-// day.
+// The day on which the month after this one starts, or a leap year ends; 0 for a number that is no month. Arms that read
+// fixed places compile to a table in read-only memory; an index that varies has all twelve laid on the stack each time.
+fn next_start(starts: &[u64; 12], month: u64) -> u64
+    ensures { λ r. ⌜ r ≡ cond (ltb month 11) (getD (now (starts .entry)) (month + 1) 0) (cond (eqb month 11) 366 0) ⌝ }
+{
+    match month {
+        0 => starts[1],
+        1 => starts[2],
+        2 => starts[3],
+        3 => starts[4],
+        4 => starts[5],
+        5 => starts[6],
+        6 => starts[7],
+        7 => starts[8],
+        8 => starts[9],
+        9 => starts[10],
+        10 => starts[11],
+        11 => LEAP_YEAR_DAYS,
+        _ => 0,
+    }
+}
+
+// The month that holds a day of a year. Month m starts on day 32 * m, or up to 15 days before it; so day / 32 is the month
+// or the one before it, and which of the two, the next start tells.
 fn month_holding(day: u64) -> u64
     requires { ⌜ day < 366 ⌝ }
     ensures { λ r. ⌜ InMonth day r ⌝ }
 {
-    (5 * day + 2) / 153
+    let guess = day / 32;
+    if next_start(&MONTH_STARTS, guess) <= day {
+        guess + 1
+    } else {
+        guess
+    }
 }
 
 // A date of small numbers.
