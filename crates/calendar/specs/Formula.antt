@@ -21,8 +21,8 @@ era y = cond (nonNeg y) (quotZ y (pos 400)) (quotZ (y -ℤ pos 399) (pos 400))
 unfoldable pub yoe : ℤ → ℤ
 yoe y = y -ℤ era y *ℤ pos 400
 
--- days before a month, where each five from March on have 153. civil.rs takes any month field by this rule, also one that
--- no calendar has; so the formula stays, and no table of twelve months could stand in its place
+-- days before a month, where each five from March on have 153; a formula and not a table of twelve, since civil.rs takes
+-- any month field by it, also one that no calendar has
 abbrev pub monthStart : ℕ → ℕ
 monthStart m = (153 * m + 2) / 5
 

@@ -81,9 +81,10 @@ fn days_before_year(year: u64) -> u64
     year * YEAR_QUARTERS / 4 - century + century / 4
 }
 
-// Days before a month, by civil.rs's formula: MONTH_STARTS for the twelve, and a number for a month that no calendar has,
-// since a date may have any field. From March on, five months have 31, 30, 31, 30 and 31 days, 153, and then again. A
-// month is so 153 / 5 days on the mean, and 2 more than its fifths, rounded down, give 0, 31, 61, 92, 122, 153 .. 337.
+// Days before a month, by civil.rs's formula. For the twelve months it gives MONTH_STARTS; but a date may hold any month
+// field, and the formula answers for those that no calendar has, too. From March on, five months have 31, 30, 31, 30 and
+// 31 days, 153, and then again. A month is so 153 / 5 days on the mean, and 2 more than its fifths, rounded down, give 0,
+// 31, 61, 92, 122, 153 .. 337.
 fn days_before_month(month: u64) -> u64
     requires { ⌜ month < 2 ^ 9 ⌝ }
     ensures { λ r. ⌜ r ≡ monthStart month ⌝ }
@@ -132,8 +133,8 @@ fn year_holding(day: u64) -> YearDay
     }
 }
 
-// The day on which the month after this one starts, or a leap year ends; 0 for a number that is no month. Arms that read
-// fixed places compile to a table in read-only memory; an index that varies has all twelve laid on the stack each time.
+// The day on which the month after this one starts, or a leap year ends; 0 for a number that is no month. The arms
+// compile to a table in read-only memory, whereas `starts[month + 1]` would lay all twelve on the stack at each call.
 fn next_start(starts: &[u64; 12], month: u64) -> u64
     ensures { λ r. ⌜ r ≡ cond (ltb month 11) (getD (now (starts .entry)) (month + 1) 0) (cond (eqb month 11) 366 0) ⌝ }
 {
@@ -154,8 +155,8 @@ fn next_start(starts: &[u64; 12], month: u64) -> u64
     }
 }
 
-// The month that holds a day of a year. Month m starts on day 32 * m, or up to 15 days before it; so day / 32 is the month
-// or the one before it, and which of the two, the next start tells.
+// The month that holds a day of a year. Month m starts on day 32 * m or up to 15 days before it, so day / 32 is the month
+// or the one before it; whether the next month has started tells which.
 fn month_holding(day: u64) -> u64
     requires { ⌜ day < 366 ⌝ }
     ensures { λ r. ⌜ InMonth day r ⌝ }
