@@ -1,6 +1,6 @@
 -- The constant is the sums of the calendar's month lengths; month m starts on day 32 × m or a little before it, so the
 -- guess is the month or the one before.
-use Prim.Native.Nat.{ℕ, suc, _+_, _*_, _≤_, _<_}
+use Prim.Native.Nat.{ℕ, suc, _+_, _*_, _/_, _≤_, _<_}
 use mathlib.Core.Path.{_≡_, refl, _∙_}
 use mathlib.Core.Bool.{Bool, true, false, cond}
 use mathlib.Core.List.{List, [], _∷_, map}
@@ -36,9 +36,12 @@ unfolding daysIn
 start-is true m h = eqb→eq _ _ (at (as-formula true) 12 tt m h)
 start-is false m h = eqb→eq _ _ (at (as-formula false) 12 tt m h)
 
+-- the start after month m, as `next_start` tells it
+abbrev after : ℕ → ℕ
+after m = cond (ltb m 11) (getD (starts true) (m + 1) 0) (cond (eqb m 11) 366 0)
+
 -- ---- the guess g is the month, or the one before where the month after g, which starts on day r, has started
-module _ (day g r : ℕ) (in-year : day < 366) (from : 32 * g ≤ day) (to : day < 32 * g + 32)
-    (next : r ≡ cond (ltb g 11) (getD (starts true) (g + 1) 0) (cond (eqb g 11) 366 0)) where
+module _ (day g r : ℕ) (in-year : day < 366) (from : 32 * g ≤ day) (to : day < 32 * g + 32) (next : r ≡ after g) where
   month-after : g < 11 → r ≡ monthStart (g + 1)
   month-after h = next ∙ rw (lt-ltb g 11 h) (start-is true (g + 1) (omega arith))
 
@@ -59,23 +62,22 @@ module _ (day g r : ℕ) (in-year : day < 366) (from : 32 * g ≤ day) (to : day
       by-order (yes h) = omega (arith, month-after h)
       by-order (no h) = omega (arith, h)
 
--- What `next_start` ensures speaks of the constant's numbers, and is taken here as a statement about `starts true`: the
--- checker computes both lists, and they have to be the same.
-returns : call.Tie.Need-returns
+-- ---- the constant in the code is these sums: the checker computes both lists, and they have to be the same
+table : (c : call.Tie.After-next-start) → c .next-start .result ≡ after (c .before .before .args .day / 32)
 unfolding daysIn
+table c = c .next-start .ensures
+
+returns : call.Tie.Need-returns
 returns c =
-    let after = c .before in
-    let at-start = after .before .before in
-    guessed-low (at-start .args .day) _ (after .next-start .result) (at-start .pre) (omega arith) (omega arith)
-    (after .next-start .ensures) (omega (arith, c .if1 .taken))
+    let s = c .before .before .before in
+    guessed-low (s .args .day) (s .args .day / 32) (c .before .next-start .result) (s .pre) (omega arith) (omega arith)
+    (table (c .before)) (omega (arith, c .if1 .taken))
 
 returns-2 : call.Tie.Need-returns-2
-unfolding daysIn
 returns-2 c =
-    let after = c .before in
-    let at-start = after .before .before in
-    guessed-right (at-start .args .day) _ (after .next-start .result) (at-start .pre) (omega arith) (omega arith)
-    (after .next-start .ensures) (omega (arith, c .if1 .left))
+    let s = c .before .before .before in
+    guessed-right (s .args .day) (s .args .day / 32) (c .before .next-start .result) (s .pre) (omega arith) (omega arith)
+    (table (c .before)) (omega (arith, c .if1 .left))
 
 pub month-holding-spec : {M : Type 1} → call.Statement.statement M
 month-holding-spec = call.Tie.close (call.Tie.spec (search needs) (search needs) returns returns-2)

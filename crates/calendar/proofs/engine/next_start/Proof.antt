@@ -14,9 +14,9 @@ abbrev NoneOf : ℕ → ℕ → Type 0
 NoneOf zero x = Unit {0}
 NoneOf (suc n) x = NoneOf n x × (x ≡ n → ⊥)
 
-not-below : (n x : ℕ) → NoneOf n x → n ≤ x
-not-below zero x h = omega arith
-not-below (suc n) x h = omega (arith, not-below n x (h .0), h .1)
+at-least : (n x : ℕ) → NoneOf n x → n ≤ x
+at-least zero x h = omega arith
+at-least (suc n) x h = omega (arith, at-least n x (h .0), h .1)
 
 module _ (c : call.Tie.Start) where
   -- what the contract says of a month
@@ -46,4 +46,4 @@ next-start-spec =
     (λ c. arm (c .before .before) 9 (c .before .match .keys10))
     (λ c. arm (c .before .before) 10 (c .before .match .keys11))
     (λ c. arm (c .before) 11 (c .match .keys12))
-    (λ c. beyond (c .before) (not-below 12 (c .before .args .month) (c .match .rest))))
+    (λ c. beyond (c .before) (at-least 12 (c .before .args .month) (c .match .rest))))
