@@ -214,10 +214,12 @@ uint32_t plaitgate_tai_limits(uint64_t *epoch, uint64_t *min, uint64_t *max, uin
 
 /* end of every scale */
 
-/* ---- GPS alone ---- */
+/* scales with weeks, by tools/write-scales */
 
-/* The GPS count of a week since the epoch and a time of week. Refuses with 2 where seconds reach 604800, else with 11
-   where nanos reach 1000000000, else with 1 where the count is above 64 bits, which begins in week 30500. */
+/* ---- weeks of GPS ---- */
+
+/* The GPS count of a week since the epoch and a time of week. Refuses with 2 where seconds reach 604800, else with
+   11 where nanos reach 1000000000, else with 1 where the count is above 64 bits, which begins in week 30500. */
 uint32_t plaitgate_gps_from_week_tow(uint32_t week, uint64_t seconds, uint32_t nanos, uint64_t *count);
 
 /* The week since the epoch of a GPS count, 0 to 30500. Does not refuse. */
@@ -228,6 +230,10 @@ uint32_t plaitgate_gps_tow_seconds(uint64_t count, uint32_t *seconds);
 
 /* The nanoseconds of a GPS count since its second began, 0 to 999999999. Does not refuse. */
 uint32_t plaitgate_gps_sub_second_nanos(uint64_t count, uint32_t *nanos);
+
+/* end of scales with weeks */
+
+/* ---- GPS alone ---- */
 
 /* The TAI count of a GPS count: 19 s more. Refuses with 1 where that is above 64 bits. */
 uint32_t plaitgate_gps_to_tai(uint64_t count, uint64_t *tai);

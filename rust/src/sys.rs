@@ -153,10 +153,13 @@ of_numbers! {
     tai_limits() -> (epoch: u64, min: u64, max: u64, nanos_per_year: u64);
     // end of every scale
 
+    // scales with weeks, by tools/write-scales
     gps_from_week_tow(week: u32, seconds: u64, nanos: u32) -> (count: u64);
     gps_week(count: u64) -> (week: u32);
     gps_tow_seconds(count: u64) -> (seconds: u32);
     gps_sub_second_nanos(count: u64) -> (nanos: u32);
+    // end of scales with weeks
+
     gps_to_tai(count: u64) -> (tai: u64);
     gps_from_tai(tai: u64) -> (count: u64);
 

@@ -19,7 +19,7 @@ use counts::Duration;
 use counts::sums;
 use counts::units;
 use refusals::Refusal;
-use scales::gps_weeks::TAI_MINUS_GPS_NS;
+use scales::gps_tai::TAI_MINUS_GPS_NS;
 use tables::Lookup;
 use tables::LookupAnswer;
 

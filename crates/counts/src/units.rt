@@ -10,6 +10,10 @@ use crate::sums;
 use refusals::Refusal;
 
 pub const NANOS_PER_SECOND: u64 = 1_000_000_000;
+
+pub const SECONDS_PER_WEEK: u32 = 604_800;
+
+pub const NANOS_PER_WEEK: u64 = SECONDS_PER_WEEK as u64 * NANOS_PER_SECOND;
 // of 365 days
 pub const NANOS_PER_YEAR: u64 = 31_536_000 * NANOS_PER_SECOND;
 

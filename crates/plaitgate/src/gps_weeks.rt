@@ -1,13 +1,11 @@
-// GPS counts: weeks, and the TAI count.
+// Written by tools/write-scales from its template in tools/templates.
+// Weeks of GPS.
 ghost use Prim.Native.Nat.{_*_, _/_, _%_};
 ghost use Rattle.refusals.specs.Outcome.{Gives, answered};
-ghost use Rattle.counts.specs.Exact.{up, down};
 ghost use Rattle.counts.specs.Units.{second, weekSeconds, ofUnits};
-ghost use Rattle.scales.specs.Scales.{taiMinusGps};
 use crate::give;
 use counts::units::DurationParts;
 use scales::gps::Gps;
-use scales::tai::Tai;
 
 #[no_mangle]
 pub extern "C" fn plaitgate_gps_from_week_tow(
@@ -46,18 +44,4 @@ pub extern "C" fn plaitgate_gps_sub_second_nanos(count: u64, nanos: &mut u32) ->
 {
     *nanos = Gps(count).sub_second_nanos();
     0
-}
-
-#[no_mangle]
-pub extern "C" fn plaitgate_gps_to_tai(count: u64, tai: &mut u64) -> u32
-    ensures { λ r. ⌜ Gives 0 (up taiMinusGps count) r (now (tai .exit)) ⌝ }
-{
-    give::tai_count(Gps(count).to_tai(), tai)
-}
-
-#[no_mangle]
-pub extern "C" fn plaitgate_gps_from_tai(tai: u64, count: &mut u64) -> u32
-    ensures { λ r. ⌜ Gives 0 (down taiMinusGps tai) r (now (count .exit)) ⌝ }
-{
-    give::gps_count(Gps::from_tai(Tai(tai)), count)
 }

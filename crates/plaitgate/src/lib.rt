@@ -8,6 +8,9 @@ pub mod gps;
 pub mod tai;
 pub mod utc;
 // end of every scale
+// scales with weeks, by tools/write-scales
+pub mod gps_weeks;
+// end of scales with weeks
 pub mod by_builtin;
 pub mod by_table;
 pub mod civil_dates;
@@ -15,7 +18,7 @@ pub mod civil_times;
 pub mod durations;
 mod give;
 pub mod glonass_days;
-pub mod gps_weeks;
+pub mod gps_tai;
 pub mod leap_events;
 pub mod leap_lists;
 pub mod leap_tables;

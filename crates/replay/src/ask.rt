@@ -7,12 +7,15 @@ mod gps;
 mod tai;
 mod utc;
 // end of every scale
+// scales with weeks, by tools/write-scales
+mod gps_weeks;
+// end of scales with weeks
 mod by_builtin;
 mod by_table;
 pub mod changes;
 mod dates;
 mod glonass_days;
-mod gps_weeks;
+mod gps_tai;
 mod lists;
 mod unix_and_durations;
 
@@ -25,7 +28,8 @@ pub fn ask(call: u64, q: Question) -> Reply {
         12..=22 => utc::counts(call - 11, q),
         23..=33 => glonass::counts(call - 22, q),
         34..=44 => tai::counts(call - 33, q),
-        45..=50 => gps_weeks::weeks(call - 44, q),
+        45..=48 => gps_weeks::weeks(call - 44, q),
+        49..=50 => gps_tai::tai(call - 48, q),
         51..=56 => glonass_days::days(call - 50, q),
         57..=63 => unix_and_durations::unix_and_durations(call - 56, q),
         64..=68 => dates::dates(call - 63, q),

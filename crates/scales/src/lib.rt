@@ -7,6 +7,9 @@ pub mod gps;
 pub mod tai;
 pub mod utc;
 // end of every scale
-pub mod glonass_days;
+// scales with weeks, by tools/write-scales
 pub mod gps_weeks;
+// end of scales with weeks
+pub mod glonass_days;
+pub mod gps_tai;
 pub mod utc_unix;

@@ -13,7 +13,7 @@ use crate::inner::lookup;
 use conversions::inner;
 use counts::CountAnswer;
 use counts::units::NANOS_PER_SECOND;
-use scales::gps_weeks::TAI_MINUS_GPS_NS;
+use scales::gps_tai::TAI_MINUS_GPS_NS;
 use tables::Lookup;
 
 // UTC − TAI before the first event.

@@ -5,25 +5,22 @@ use lib.IntN.{pos, _-ℤ_, _*ℤ_}
 use denote.Ref.{now}
 use Rattle.refusals.proofs.Given.{zeros-on-refusal}
 use Rattle.counts.specs.Exact.{countOf}
-use Rattle.counts.specs.Units.{second, daySeconds, weekSeconds, unixOffset, ofUnits, partsFrom}
+use Rattle.counts.specs.Units.{second, daySeconds, unixOffset, ofUnits, partsFrom}
 use Rattle.counts.specs.declared.units.DurationParts.{DurationParts}
 use Rattle.scales.specs.Scales.{taiMinusGps}
 use Rattle.plaitgate.proofs.durations
 use Rattle.plaitgate.proofs.glonass_days
-use Rattle.plaitgate.proofs.gps_weeks
+use Rattle.plaitgate.proofs.gps_tai
 use Rattle.plaitgate.proofs.utc_unix
 use Rattle.demands.specs.RefusalsLeave.{ZerosOnRefusal}
 
 abbrev partsWith : ℕ → ℕ → DurationParts
 partsWith s n = record { seconds = s; nanos = n }
 
-pub gps-from-week-tow : ZerosOnRefusal gps_weeks.plaitgate_gps_from_week_tow.Reads.Post 0 (λ κ e. now (e .1 .1 .1 .0))
-gps-from-week-tow κ a k e = zeros-on-refusal (ofUnits weekSeconds (a .0) (a .1 .0) (a .1 .1 .0))
-
-pub gps-to-tai : ZerosOnRefusal gps_weeks.plaitgate_gps_to_tai.Reads.Post 0 (λ κ e. now (e .1 .0))
+pub gps-to-tai : ZerosOnRefusal gps_tai.plaitgate_gps_to_tai.Reads.Post 0 (λ κ e. now (e .1 .0))
 gps-to-tai κ a k e = zeros-on-refusal (countOf (pos (a .0 + taiMinusGps)))
 
-pub gps-from-tai : ZerosOnRefusal gps_weeks.plaitgate_gps_from_tai.Reads.Post 0 (λ κ e. now (e .1 .0))
+pub gps-from-tai : ZerosOnRefusal gps_tai.plaitgate_gps_from_tai.Reads.Post 0 (λ κ e. now (e .1 .0))
 gps-from-tai κ a k e = zeros-on-refusal (countOf (pos (a .0) -ℤ pos taiMinusGps))
 
 pub glonass-from-day-tod : ZerosOnRefusal glonass_days.plaitgate_glonass_from_day_tod.Reads.Post 0

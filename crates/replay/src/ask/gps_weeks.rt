@@ -1,11 +1,10 @@
-// Questions about weeks of GPS and its TAI count.
+// Written by tools/write-scales from its template in tools/templates.
+// Questions about weeks of GPS.
 use crate::reply::Question;
 use crate::reply::Reply;
 use crate::reply::low;
-use plaitgate::gps_weeks::plaitgate_gps_from_tai;
 use plaitgate::gps_weeks::plaitgate_gps_from_week_tow;
 use plaitgate::gps_weeks::plaitgate_gps_sub_second_nanos;
-use plaitgate::gps_weeks::plaitgate_gps_to_tai;
 use plaitgate::gps_weeks::plaitgate_gps_tow_seconds;
 use plaitgate::gps_weeks::plaitgate_gps_week;
 
@@ -26,20 +25,10 @@ pub fn weeks(call: u64, q: Question) -> Reply {
             let number = plaitgate_gps_tow_seconds(q.x, &mut a);
             Reply::one(number, a as u64)
         }
-        4 => {
+        _ => {
             let mut a: u32 = 1;
             let number = plaitgate_gps_sub_second_nanos(q.x, &mut a);
             Reply::one(number, a as u64)
-        }
-        5 => {
-            let mut a: u64 = 1;
-            let number = plaitgate_gps_to_tai(q.x, &mut a);
-            Reply::one(number, a)
-        }
-        _ => {
-            let mut a: u64 = 1;
-            let number = plaitgate_gps_from_tai(q.x, &mut a);
-            Reply::one(number, a)
         }
     }
 }

@@ -1,11 +1,11 @@
-// Questions about weeks of GPS and its TAI count, by value.
+// Written by tools/write-scales from its template in tools/templates.
+// Questions about weeks of GPS, by value.
 use crate::by_value::said;
 use crate::reply::Question;
 use crate::reply::Reply;
 use crate::reply::low;
 use counts::units::DurationParts;
 use scales::gps::Gps;
-use scales::tai::Tai;
 
 pub fn weeks(call: u64, q: Question) -> Reply {
     let t = Gps(q.x);
@@ -19,8 +19,6 @@ pub fn weeks(call: u64, q: Question) -> Reply {
         }
         2 => Reply::one(0, t.week() as u64),
         3 => Reply::one(0, t.tow_seconds() as u64),
-        4 => Reply::one(0, t.sub_second_nanos() as u64),
-        5 => said::tai(t.to_tai()),
-        _ => said::gps(Gps::from_tai(Tai(q.x))),
+        _ => Reply::one(0, t.sub_second_nanos() as u64),
     }
 }

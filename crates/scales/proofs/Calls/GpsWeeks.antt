@@ -1,7 +1,8 @@
--- What GPS alone has: each call leaves one answer for each input.
+-- Written by tools/write-scales from its template in tools/templates.
+-- Weeks of GPS: each call leaves one answer for each input.
 use mathlib.Core.Path.{sym, _∙_}
 use Rattle.refusals.proofs.OneAnswer.{OneAnswer, viewed}
-use Rattle.scales.proofs.Tells.{gps-tells, tai-tells}
+use Rattle.scales.proofs.Tells.{gps-tells}
 use Rattle.scales.proofs.gps.Gps
 
 pub gps-from-week-tow : OneAnswer Gps.from_week_tow.Reads.Post
@@ -15,9 +16,3 @@ gps-tow-seconds κ a x y e f p q = p ∙ sym q
 
 pub gps-sub-second-nanos : OneAnswer Gps.sub_second_nanos.Reads.Post
 gps-sub-second-nanos κ a x y e f p q = p ∙ sym q
-
-pub gps-to-tai : OneAnswer Gps.to_tai.Reads.Post
-gps-to-tai κ a x y e f p q = viewed tai-tells x y p q
-
-pub gps-from-tai : OneAnswer Gps.from_tai.Reads.Post
-gps-from-tai κ a x y e f p q = viewed gps-tells x y p q

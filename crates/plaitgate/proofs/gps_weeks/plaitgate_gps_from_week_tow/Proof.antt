@@ -1,3 +1,4 @@
+-- Written by tools/write-scales from its template in tools/templates.
 -- `plaitgate_gps_from_week_tow` gives a host what `Gps::from_week_tow` answers.
 use Rattle.refusals.proofs.Given.{gives-same}
 use Rattle.plaitgate.proofs.gps_weeks.plaitgate_gps_from_week_tow as call

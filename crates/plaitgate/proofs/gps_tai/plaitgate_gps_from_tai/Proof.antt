@@ -1,6 +1,6 @@
 -- `plaitgate_gps_from_tai` gives a host what `Gps::from_tai` answers.
 use Rattle.refusals.proofs.Given.{gives-same}
-use Rattle.plaitgate.proofs.gps_weeks.plaitgate_gps_from_tai as call
+use Rattle.plaitgate.proofs.gps_tai.plaitgate_gps_from_tai as call
 
 pub plaitgate-gps-from-tai-spec : {M : Type 1} → call.Statement.statement M
 plaitgate-gps-from-tai-spec =

@@ -1,0 +1,11 @@
+-- Written by tools/write-scales from its template in tools/templates.
+-- Weeks: each call gives the number and the value of an outcome, so a refusal writes zeros.
+use denote.Ref.{now}
+use Rattle.refusals.proofs.Given.{zeros-on-refusal}
+use Rattle.counts.specs.Units.{weekSeconds, ofUnits}
+use Rattle.plaitgate.proofs.gps_weeks
+use Rattle.demands.specs.RefusalsLeave.{ZerosOnRefusal}
+
+pub gps-from-week-tow : ZerosOnRefusal gps_weeks.plaitgate_gps_from_week_tow.Reads.Post 0
+    (λ κ e. now (e .1 .1 .1 .0))
+gps-from-week-tow κ a k e = zeros-on-refusal (ofUnits weekSeconds (a .0) (a .1 .0) (a .1 .1 .0))
