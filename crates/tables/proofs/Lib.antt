@@ -2,6 +2,7 @@ pub mod FirstSlots
 pub mod Integers
 pub mod Neighbours
 pub mod Scanned
+pub mod RegularSlots
 pub mod InForce
 pub mod Halving
 pub mod Filled

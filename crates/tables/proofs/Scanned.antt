@@ -1,6 +1,7 @@
--- A scan of the first n slots by neighbours: what is left of them has the first refusal of all.
+-- A scan of the first n slots by neighbours: what is left of them has the first refusal of all, and passes a test of
+-- neighbours exactly if all do.
 use mathlib.Core.Path.{_≡_, refl, sym, ap, _∙_}
-use mathlib.Core.Bool.{true, false, cond, false≢true}
+use mathlib.Core.Bool.{Bool, true, false, cond, _&&_, false≢true}
 use mathlib.Core.List.{List, [], _∷_}
 use Prim.Native.Nat.{ℕ, zero, suc, _+_, _-_, _≤_, _<_}
 use native.Mathlib.Omega.{arith}
@@ -10,7 +11,7 @@ use lib.ListN.{length, getD, drop, length-drop}
 use lib.IntN.{ℤ, pos}
 use mir.Syntax.{w32}
 use mir.Val.{SFits}
-use Rattle.tables.specs.Entries.{Entry, entry, follows, valid, stepRefusal, firstRefusal}
+use Rattle.tables.specs.Entries.{Entry, entry, neighbours, follows, valid, stepRefusal, firstRefusal}
 use Rattle.tables.specs.Slots.{slotAt, slots}
 use Rattle.tables.proofs.FirstSlots.{slots-length, slot-is}
 use Rattle.tables.proofs.Neighbours.{same-test, step-follows, passes-valid, at-each}
@@ -30,6 +31,22 @@ unfolding firstRefusal
 one-passes [] l = refl
 one-passes (e ∷ []) l = refl
 one-passes (e ∷ f ∷ es) l = absurd (omega arith)
+
+module _ (test : Entry → Entry → Bool) where
+  -- the next two are tested, and then the rest
+  tested-next : (es : List Entry) (k : ℕ) (d : Entry) → suc k < length es
+      → neighbours test (drop k es) ≡ (test (getD es k d) (getD es (suc k) d) && neighbours test (drop (suc k) es))
+  unfolding neighbours
+  tested-next [] k d l = absurd (omega arith)
+  tested-next (p ∷ []) k d l = absurd (omega arith)
+  tested-next (p ∷ e ∷ es) zero d l = refl
+  tested-next (p ∷ e ∷ es) (suc k) d l = tested-next (e ∷ es) k d (omega arith)
+
+  one-tested : (es : List Entry) → length es ≤ 1 → neighbours test es ≡ true
+  unfolding neighbours
+  one-tested [] l = refl
+  one-tested (e ∷ []) l = refl
+  one-tested (e ∷ f ∷ es) l = absurd (omega arith)
 
 module _ (xs : List ℕ) (zs : List ℤ) where
   module _ (i n : ℕ) (p : 1 ≤ i) (l : i < n) (h : n ≤ length xs) (h′ : n ≤ length zs) where
@@ -55,6 +72,21 @@ module _ (xs : List ℕ) (zs : List ℤ) where
         same-test (valid es) false
         (λ v. sym f ∙ at (λ k p e. follows p e ≡ true) (at-each follows es d v (i - 1) in-range))
         (λ c. absurd (false≢true c))
+
+    module _ (test : Entry → Entry → Bool) {b : Bool} (judged : b ≡ test (slotAt xs zs (i - 1)) (slotAt xs zs i))
+        (left : neighbours test (drop (i - 1) es) ≡ neighbours test es) where
+      then-tested : neighbours test es ≡ (b && neighbours test (drop i es))
+      then-tested =
+          sym left
+          ∙ at (λ j p e. b ≡ test p e → neighbours test (drop (i - 1) es) ≡ (b && neighbours test (drop j es)))
+          (λ q. tested-next test es (i - 1) d in-range ∙ ap (λ (t : Bool). t && neighbours test (drop (suc (i - 1)) es)) (sym q))
+          judged
+
+      pub passes-on : b ≡ true → neighbours test (drop (i + 1 - 1) es) ≡ neighbours test es
+      passes-on t = let e : i + 1 - 1 ≡ i = omega arith in rw e (sym (rw t at then-tested))
+
+      pub fails-here : b ≡ false → false ≡ neighbours test es
+      fails-here f = sym (rw f at then-tested)
 
     module _ (k : ℕ) (judged : k ≡ stepRefusal (slotAt xs zs (i - 1)) (slotAt xs zs i))
         (left : firstRefusal (drop (i - 1) es) ≡ firstRefusal es) where
@@ -82,3 +114,11 @@ module _ (xs : List ℕ) (zs : List ℤ) where
       let n-is = slots-length xs zs n h h′ in
       let z = sym left ∙ one-passes (drop (i - 1) (slots xs zs n)) (omega arith) in
       (sym z, sym (passes-valid (slots xs zs n) z))
+
+  pub all-passed : (test : Entry → Entry → Bool) (i n : ℕ) → n ≤ i → n ≤ length xs → n ≤ length zs
+      → neighbours test (drop (i - 1) (slots xs zs n)) ≡ neighbours test (slots xs zs n)
+      → true ≡ neighbours test (slots xs zs n)
+  all-passed test i n l h h′ left =
+      let few = length-drop (i - 1) (slots xs zs n) in
+      let n-is = slots-length xs zs n h h′ in
+      sym (one-tested test (drop (i - 1) (slots xs zs n)) (omega arith)) ∙ left

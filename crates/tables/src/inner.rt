@@ -3,10 +3,11 @@ ghost use mathlib.Core.Path.{_≡_};
 ghost use mathlib.Core.Bool.{true};
 ghost use mathlib.Core.List.{[]};
 ghost use Prim.Native.Nat.{ℕ, _+_, _-_, _≤_, _<_, min};
-ghost use lib.Dec.{eqb};
+ghost use lib.Dec.{leb, eqb};
 ghost use lib.ListN.{length};
 ghost use Rattle.refusals.specs.Outcome.{answered, changed};
-ghost use Rattle.tables.specs.Entries.{stepRefusal, firstRefusal, joinRefusal, lookup, valid};
+ghost use Rattle.tables.specs.Entries.{stepRefusal, firstRefusal, joinRefusal, lookup, valid, neighbours, day};
+ghost use Rattle.tables.specs.Entries.{aDayOn, regular};
 ghost use Rattle.tables.specs.Slots.{slotAt, slots, validSlots, ofValidSlots, joinedTo, tableOf};
 ghost use Rattle.tables.specs.Search.{Rises, AtOrBelow};
 ghost use Rattle.tables.specs.Answers.{takenIn, lookupIn, offsetIn};
@@ -24,6 +25,9 @@ const LARGEST_OFFSET: i32 = i32::MAX;
 
 // The offset in force at every reading of a table with no entry, that of the GPS epoch.
 pub const OFFSET_OF_NO_ENTRY: i32 = 19;
+
+// 86,400 s
+const NANOS_PER_DAY: u64 = 86_400_000_000_000;
 
 // The entry in slot i.
 pub fn slot<'a>(thresholds: &'a [u64], offsets: &'a [i32], i: usize) -> LeapEntry
@@ -87,6 +91,53 @@ pub fn is_valid<'a>(thresholds: &'a [u64; 64], offsets: &'a [i32; 64], n: usize)
         Taken::Done => true,
         Taken::Refused(_) => false,
     }
+}
+
+// Whether a threshold lies a day or more after the one before.
+fn a_day_on(before: u64, next: u64) -> bool
+    ensures { λ r. ⌜ r ≡ leb (before + day) next ⌝ }
+{
+    before <= next && NANOS_PER_DAY <= next - before
+}
+
+// Whether each of the first n thresholds after the first lies a day or more after the one before.
+fn days_apart<'a>(thresholds: &'a [u64], offsets: &'a [i32], n: usize) -> bool
+    requires { ⌜ n ≤ length (now thresholds) ⌝ }
+    requires { ⌜ n ≤ length (now offsets) ⌝ }
+    ensures { λ r. ⌜ r ≡ neighbours aDayOn (slots (now (thresholds .entry)) (now (offsets .entry)) n) ⌝ }
+{
+    let mut i: usize = 1;
+    while i < n {
+        let before = slot(thresholds, offsets, i - 1);
+        let next = slot(thresholds, offsets, i);
+        if !a_day_on(before.tai_nanos, next.tai_nanos) {
+            return false;
+        }
+        i += 1;
+    }
+    true
+}
+
+// Whether the first n slots, which are valid, are those of a regular table.
+pub fn is_regular<'a>(thresholds: &'a [u64], offsets: &'a [i32], n: usize) -> bool
+    requires { ⌜ n ≤ 64 ⌝ }
+    requires { ⌜ n ≤ length (now thresholds) ⌝ }
+    requires { ⌜ n ≤ length (now offsets) ⌝ }
+    requires { ⌜ valid (slots (now thresholds) (now offsets) n) ≡ true ⌝ }
+    ensures { λ r. ⌜ r ≡ regular (slots (now (thresholds .entry)) (now (offsets .entry)) n) ⌝ }
+{
+    if n == 0 {
+        return false;
+    }
+    let first = slot(thresholds, offsets, 0);
+    if first.tai_nanos != 0 {
+        return false;
+    }
+    let offset = first.tai_minus_utc;
+    if offset != OFFSET_OF_NO_ENTRY {
+        return false;
+    }
+    days_apart(thresholds, offsets, n)
 }
 
 // How many of the first n thresholds are at or below a TAI reading, by halves: 7 probes for 64 of them.
