@@ -1,11 +1,14 @@
 /*
- * Plaitgate for C: counts of GPS, UTC, GLONASS and TAI nanoseconds, with exact answers and exact refusals.
+ * Plaitgate for C: counts of GPS, UTC, GLONASS, TAI, Galileo and BeiDou nanoseconds, with exact answers and exact
+ * refusals.
  *
  * A count is the number of nanoseconds since the epoch of its scale, in 64 bits without sign:
  *   GPS      from 1980-01-06
  *   UTC      from 1972-01-01, leap seconds not counted
  *   GLONASS  from 1996-01-01, in Moscow time
  *   TAI      from 1980-01-06 on the clock of TAI, so that it is the GPS count and 19 s
+ *   Galileo  from 1999-08-22 on the clock of GPS, so that it is the GPS count less 619315200 s
+ *   BeiDou   from 2006-01-01 in UTC, so that it is the GPS count less 820108814 s
  * All counts have the C type uint64_t: that one scale is not taken for another is up to the caller.
  * A duration is a number of nanoseconds with sign, in 64 bits.
  *
@@ -212,6 +215,45 @@ uint32_t plaitgate_tai_checked_elapsed(uint64_t count, uint64_t earlier, int64_t
    of a year of 365 days. Does not refuse. */
 uint32_t plaitgate_tai_limits(uint64_t *epoch, uint64_t *min, uint64_t *max, uint64_t *nanos_per_year);
 
+/* ---- Galileo ---- */
+
+/* The Galileo count of a number of nanoseconds since the epoch: the same number. Does not refuse. */
+uint32_t plaitgate_galileo_from_nanos(uint64_t nanos, uint64_t *count);
+
+/* The nanoseconds of a Galileo count since the epoch: the same number. Does not refuse. */
+uint32_t plaitgate_galileo_as_nanos(uint64_t count, uint64_t *nanos);
+
+/* The Galileo count of a number of whole seconds since the epoch. Refuses with 1 above 18446744073 s. */
+uint32_t plaitgate_galileo_checked_from_seconds(uint64_t seconds, uint64_t *count);
+
+/* The whole seconds of a Galileo count since the epoch, rounded down. Does not refuse. */
+uint32_t plaitgate_galileo_as_seconds(uint64_t count, uint64_t *seconds);
+
+/* The whole seconds of a Galileo count and the nanoseconds left, 0 to 999999999. Does not refuse. */
+uint32_t plaitgate_galileo_as_parts(uint64_t count, uint64_t *seconds, uint32_t *nanos);
+
+/* The Galileo count a duration later, or earlier where it is negative. Refuses with 1 where that is below 0 or
+   above 64 bits. */
+uint32_t plaitgate_galileo_checked_add(uint64_t count, int64_t duration, uint64_t *sum);
+
+/* The Galileo count a duration earlier, or later where it is negative. Refuses with 1 where that is below 0 or
+   above 64 bits. */
+uint32_t plaitgate_galileo_checked_sub_duration(uint64_t count, int64_t duration, uint64_t *difference);
+
+/* As plaitgate_galileo_checked_add, but stops at 0 and at the largest count. Does not refuse. */
+uint32_t plaitgate_galileo_saturating_add(uint64_t count, int64_t duration, uint64_t *sum);
+
+/* As plaitgate_galileo_checked_sub_duration, but stops at 0 and at the largest count. Does not refuse. */
+uint32_t plaitgate_galileo_saturating_sub_duration(uint64_t count, int64_t duration, uint64_t *difference);
+
+/* The duration from `earlier` to `count`, both Galileo, negative where `earlier` is the later. Refuses with 1 where
+   it does not fit 64 bits with sign. */
+uint32_t plaitgate_galileo_checked_elapsed(uint64_t count, uint64_t earlier, int64_t *duration);
+
+/* The Galileo count of the epoch (0), the least (0) and the largest (18446744073709551615), and the nanoseconds
+   of a year of 365 days. Does not refuse. */
+uint32_t plaitgate_galileo_limits(uint64_t *epoch, uint64_t *min, uint64_t *max, uint64_t *nanos_per_year);
+
 /* end of every scale */
 
 /* scales with weeks, by tools/write-scales */
@@ -230,6 +272,21 @@ uint32_t plaitgate_gps_tow_seconds(uint64_t count, uint32_t *seconds);
 
 /* The nanoseconds of a GPS count since its second began, 0 to 999999999. Does not refuse. */
 uint32_t plaitgate_gps_sub_second_nanos(uint64_t count, uint32_t *nanos);
+
+/* ---- weeks of Galileo ---- */
+
+/* The Galileo count of a week since the epoch and a time of week. Refuses with 2 where seconds reach 604800, else with
+   11 where nanos reach 1000000000, else with 1 where the count is above 64 bits, which begins in week 30500. */
+uint32_t plaitgate_galileo_from_week_tow(uint32_t week, uint64_t seconds, uint32_t nanos, uint64_t *count);
+
+/* The week since the epoch of a Galileo count, 0 to 30500. Does not refuse. */
+uint32_t plaitgate_galileo_week(uint64_t count, uint32_t *week);
+
+/* The whole seconds of a Galileo count since its week began, 0 to 604799. Does not refuse. */
+uint32_t plaitgate_galileo_tow_seconds(uint64_t count, uint32_t *seconds);
+
+/* The nanoseconds of a Galileo count since its second began, 0 to 999999999. Does not refuse. */
+uint32_t plaitgate_galileo_sub_second_nanos(uint64_t count, uint32_t *nanos);
 
 /* end of scales with weeks */
 
@@ -522,6 +579,54 @@ uint32_t plaitgate_table_gps_from_unix_seconds(int64_t seconds, const uint8_t *i
 /* The whole seconds since 1970-01-01 of a GPS count, by way of UTC, rounded down. Refuses as
    plaitgate_table_gps_to_utc. */
 uint32_t plaitgate_table_gps_as_unix_seconds(uint64_t gps, const uint8_t *image, size_t image_bytes, int64_t *seconds);
+
+/* shifted scales, by tools/write-scales */
+
+/* ---- Galileo to GPS, UTC and GLONASS, and back ---- */
+
+/* The GPS count of a Galileo count, which is behind it by a fixed number of seconds (above). Refuses with 1 where the
+   GPS count is above 64 bits. */
+uint32_t plaitgate_galileo_to_gps(uint64_t galileo, uint64_t *gps);
+
+/* The Galileo count of a GPS count. Refuses with 1 before the epoch of Galileo. */
+uint32_t plaitgate_gps_to_galileo(uint64_t gps, uint64_t *galileo);
+
+/* The UTC count of a Galileo count by the built-in table, by way of GPS. Refuses with 1 where the GPS count is above 64
+   bits, then as plaitgate_builtin_gps_to_utc. */
+uint32_t plaitgate_builtin_galileo_to_utc(uint64_t galileo, uint64_t *utc);
+
+/* The Galileo count of a UTC count by the built-in table, by way of GPS. A UTC count that two Galileo counts have
+   becomes the earlier of them. Refuses as plaitgate_builtin_utc_to_gps, then with 1 where no GPS count that the UTC
+   count has lies at or after the epoch of Galileo. */
+uint32_t plaitgate_builtin_utc_to_galileo(uint64_t utc, uint64_t *galileo);
+
+/* The GLONASS count of a Galileo count by the built-in table, by way of UTC. Refuses as
+   plaitgate_builtin_galileo_to_utc, then as plaitgate_utc_to_glonass. */
+uint32_t plaitgate_builtin_galileo_to_glonass(uint64_t galileo, uint64_t *glonass);
+
+/* The Galileo count of a GLONASS count by the built-in table, by way of UTC. Refuses as plaitgate_glonass_to_utc, then
+   as plaitgate_builtin_utc_to_galileo. */
+uint32_t plaitgate_builtin_glonass_to_galileo(uint64_t glonass, uint64_t *galileo);
+
+/* The same four by the table in an image. Each refuses with 8 first where the image holds no valid table. From UTC and
+   from GLONASS, a table that is not regular gives no more than the first GPS count of a UTC count, and refuses with 1
+   where that lies before the epoch of Galileo. (A table is regular if it begins (0, 19) and each threshold after the
+   first is at least 86400 s above the one before.) */
+uint32_t plaitgate_table_galileo_to_utc(uint64_t galileo, const uint8_t *image, size_t image_bytes, uint64_t *utc);
+uint32_t plaitgate_table_utc_to_galileo(uint64_t utc, const uint8_t *image, size_t image_bytes, uint64_t *galileo);
+uint32_t plaitgate_table_galileo_to_glonass(uint64_t galileo, const uint8_t *image, size_t image_bytes, uint64_t *glonass);
+uint32_t plaitgate_table_glonass_to_galileo(uint64_t glonass, const uint8_t *image, size_t image_bytes, uint64_t *galileo);
+
+/* end of shifted scales */
+
+/* ---- Galileo and BeiDou ---- */
+
+/* The BeiDou count of a Galileo count, by way of GPS. Refuses with 1 where the GPS count is above 64 bits, and before the
+   epoch of BeiDou. */
+uint32_t plaitgate_galileo_to_beidou(uint64_t galileo, uint64_t *beidou);
+
+/* The Galileo count of a BeiDou count, by way of GPS. Refuses with 1 where the GPS count is above 64 bits. */
+uint32_t plaitgate_beidou_to_galileo(uint64_t beidou, uint64_t *galileo);
 
 #ifdef __cplusplus
 }

@@ -48,7 +48,7 @@ fn c_type(rust: &str) -> &str {
 
 /// Functions on numbers: `name(inputs) -> (results)` is `plaitgate_name`, with a place for each result.
 macro_rules! of_numbers {
-    ($($name:ident($($input:ident: $given:ty),*) -> ($($result:ident: $written:ty),+);)*) => {
+    ($declared:ident: $($name:ident($($input:ident: $given:ty),*) -> ($($result:ident: $written:ty),+);)*) => {
         $(
             #[inline]
             pub fn $name($($input: $given),*) -> Result<($($written),+)> {
@@ -64,7 +64,7 @@ macro_rules! of_numbers {
             }
         )*
         #[cfg(test)]
-        fn declared_of_numbers() -> Vec<String> {
+        fn $declared() -> Vec<String> {
             vec![$(tests::declaration(stringify!($name),
                 &[$(c_type(stringify!($given)).to_string(),)* $(format!("{} *", c_type(stringify!($written)))),+])),*]
         }
@@ -105,7 +105,7 @@ macro_rules! of_bytes {
     };
 }
 
-of_numbers! {
+of_numbers! { declared_of_numbers:
     // every scale, by tools/write-scales
     gps_from_nanos(nanos: u64) -> (count: u64);
     gps_as_nanos(count: u64) -> (nanos: u64);
@@ -151,6 +151,17 @@ of_numbers! {
     tai_saturating_sub_duration(count: u64, duration: i64) -> (difference: u64);
     tai_checked_elapsed(count: u64, earlier: u64) -> (duration: i64);
     tai_limits() -> (epoch: u64, min: u64, max: u64, nanos_per_year: u64);
+    galileo_from_nanos(nanos: u64) -> (count: u64);
+    galileo_as_nanos(count: u64) -> (nanos: u64);
+    galileo_checked_from_seconds(seconds: u64) -> (count: u64);
+    galileo_as_seconds(count: u64) -> (seconds: u64);
+    galileo_as_parts(count: u64) -> (seconds: u64, nanos: u32);
+    galileo_checked_add(count: u64, duration: i64) -> (sum: u64);
+    galileo_checked_sub_duration(count: u64, duration: i64) -> (difference: u64);
+    galileo_saturating_add(count: u64, duration: i64) -> (sum: u64);
+    galileo_saturating_sub_duration(count: u64, duration: i64) -> (difference: u64);
+    galileo_checked_elapsed(count: u64, earlier: u64) -> (duration: i64);
+    galileo_limits() -> (epoch: u64, min: u64, max: u64, nanos_per_year: u64);
     // end of every scale
 
     // scales with weeks, by tools/write-scales
@@ -158,6 +169,10 @@ of_numbers! {
     gps_week(count: u64) -> (week: u32);
     gps_tow_seconds(count: u64) -> (seconds: u32);
     gps_sub_second_nanos(count: u64) -> (nanos: u32);
+    galileo_from_week_tow(week: u32, seconds: u64, nanos: u32) -> (count: u64);
+    galileo_week(count: u64) -> (week: u32);
+    galileo_tow_seconds(count: u64) -> (seconds: u32);
+    galileo_sub_second_nanos(count: u64) -> (nanos: u32);
     // end of scales with weeks
 
     gps_to_tai(count: u64) -> (tai: u64);
@@ -230,6 +245,29 @@ of_bytes! { declared_of_lists:
     list_last_update()(entries: &[u8])() -> (found: u8, tai: u64);
     list_current_tai_minus_utc()(entries: &[u8])() -> (offset: i32);
     list_tai_minus_utc_at()(entries: &[u8])(tai: u64) -> (offset: i32);
+}
+
+// shifted scales, by tools/write-scales
+of_numbers! { declared_of_shifted_scales:
+    galileo_to_gps(galileo: u64) -> (gps: u64);
+    gps_to_galileo(gps: u64) -> (galileo: u64);
+    builtin_galileo_to_utc(galileo: u64) -> (utc: u64);
+    builtin_utc_to_galileo(utc: u64) -> (galileo: u64);
+    builtin_galileo_to_glonass(galileo: u64) -> (glonass: u64);
+    builtin_glonass_to_galileo(glonass: u64) -> (galileo: u64);
+}
+
+of_bytes! { declared_of_shifted_scales_by_images:
+    table_galileo_to_utc(galileo: u64)(image: &Image)() -> (utc: u64);
+    table_utc_to_galileo(utc: u64)(image: &Image)() -> (galileo: u64);
+    table_galileo_to_glonass(galileo: u64)(image: &Image)() -> (glonass: u64);
+    table_glonass_to_galileo(glonass: u64)(image: &Image)() -> (galileo: u64);
+}
+// end of shifted scales
+
+of_numbers! { declared_of_two_shifted_scales:
+    galileo_to_beidou(galileo: u64) -> (beidou: u64);
+    beidou_to_galileo(beidou: u64) -> (galileo: u64);
 }
 
 /// The four functions that write an image.

@@ -3,6 +3,9 @@
 pub mod epochs;
 pub mod events;
 pub mod inner;
+// shifted scales, by tools/write-scales
+pub mod galileo;
+// end of shifted scales
 
 ghost use mathlib.Core.Path.{_≡_};
 ghost use Rattle.tables.specs.Entries.{offsetAt};

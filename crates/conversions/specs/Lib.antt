@@ -1,3 +1,4 @@
 pub mod Conversions
+pub mod Shifted
 pub mod ByLookup
 pub mod Answers

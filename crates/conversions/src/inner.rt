@@ -1,6 +1,7 @@
 // The conversions between GPS and UTC in parts, on plain counts, whatever store the lookups are made in. A count may
 // come from a step before: what that refused stays refused.
 pub mod by_table;
+pub mod later;
 pub mod steps;
 
 ghost use mathlib.Core.Path.{_≡_};
@@ -71,7 +72,8 @@ fn gps_at_offset(offset: i32, utc: u64) -> CountAnswer
     sums::earlier(utc, Duration(utc_minus_gps(offset)))
 }
 
-fn count_or(answer: CountAnswer, other: u64) -> u64
+// A count, or another number where there is none.
+pub fn count_or(answer: CountAnswer, other: u64) -> u64
     ensures { λ r. ⌜ r ≡ valueIn other (countIn answer) ⌝ }
 {
     match answer {

@@ -1,6 +1,10 @@
-// Conversions between GPS, UTC, GLONASS and Unix time by a leap-second table, after leap.rs.
+// Conversions between GPS, UTC, GLONASS and Unix time by a leap-second table, after leap.rs. Scales that differ from GPS
+// by a fixed number of seconds have a file each.
 // Every call refuses an invalid table with 8 before anything else.
 pub mod inner;
+// shifted scales, by tools/write-scales
+pub mod galileo;
+// end of shifted scales
 
 ghost use mathlib.Core.Path.{_≡_};
 ghost use Rattle.counts.specs.Exact.{up, down};

@@ -1,8 +1,8 @@
--- What a conversion between GPS and UTC gives is a count or one of the refusals, so what holds of these holds of it.
-use mathlib.Core.Bool.{Bool, true, false, cond}
+-- What a conversion between UTC and GPS, or a scale at a fixed difference, gives is a count or one of the refusals, so what holds of these holds of it.
+use mathlib.Core.Bool.{Bool, true, false, cond, _&&_}
 use mathlib.Core.List.{List}
 use Prim.Native.Nat.{ℕ, _+_, _^_}
-use lib.Dec.{ltb}
+use lib.Dec.{ltb, leb}
 use lib.IntN.{ℤ, pos, negsuc, _+ℤ_, _-ℤ_}
 use lib.Signed.{ltZ}
 use Rattle.refusals.specs.Number.{numberOf}
@@ -11,12 +11,14 @@ use Rattle.refusals.specs.declared.Refusal.{Refusal}
 use Rattle.refusals.specs.declared.Refusal.the-variants.{Overflow, BadTable, OffsetRange}
 use Rattle.refusals.proofs.Given.{Numbered}
 use Rattle.refusals.proofs.Tells.{number-not-zero}
-use Rattle.counts.specs.Exact.{countOf}
+use Rattle.counts.specs.Exact.{countOf, up, down}
+use Rattle.counts.specs.Units.{second}
 use Rattle.scales.specs.Scales.{taiMinusGps}
-use Rattle.tables.specs.Entries.{Entry, offsetAt}
+use Rattle.tables.specs.Entries.{Entry, offsetAt, regular}
 use Rattle.tables.specs.Slots.{entriesOf, validTable}
 use Rattle.images.specs.Image.{sized, tableIn, byImage}
 use Rattle.conversions.specs.Conversions.{E, inNanos, inRange, utcAtOffset, lastReading, gpsToUtc, utcToGps}
+use Rattle.conversions.specs.Shifted.{answers, laterOf, shiftedToUtc, utcToShifted}
 
 module _ (P : Outcome ℕ → Type 0) where
   -- whichever of the two a test takes
@@ -50,6 +52,32 @@ to-utc-numbered = to-utc Numbered (λ n. tt) number-not-zero
 
 pub to-gps-numbered : (es : List Entry) (u : ℕ) → Numbered (utcToGps es u)
 to-gps-numbered = to-gps Numbered (λ n. tt) number-not-zero
+
+-- one step after another
+numbered-then : (o : Outcome ℕ) (next : ℕ → Outcome ℕ) → Numbered o → ((a : ℕ) → Numbered (next a))
+    → Numbered (then o next)
+numbered-then (answered a) next n m = m a
+numbered-then (refused k) next n m = n
+
+count-numbered : (z : ℤ) → Numbered (countOf z)
+count-numbered = count Numbered (λ n. tt) number-not-zero
+
+-- of a scale at a fixed difference
+pub shifted-to-utc-numbered : (d : ℕ) (es : List Entry) (n : ℕ) → Numbered (shiftedToUtc d es n)
+shifted-to-utc-numbered d es n =
+    numbered-then (up d n) (gpsToUtc es) (count-numbered (pos (n + d))) (to-utc-numbered es)
+
+pub utc-to-shifted-numbered : (d : ℕ) (es : List Entry) (u : ℕ) → Numbered (utcToShifted d es u)
+utc-to-shifted-numbered d es u =
+    numbered-then (utcToGps es u) (λ g. then (taken g) (down d)) (to-gps-numbered es u) (λ g.
+    numbered-then (taken g) (down d)
+    (either Numbered (leb d g) (answered g) (laterOf es u g) tt
+    (either Numbered (regular es && answers (gpsToUtc es (g + second)) u) (answered (g + second)) (refused 1) tt
+    (number-not-zero Overflow)))
+    (λ m. count-numbered (pos m -ℤ pos d)))
+  where
+    taken : ℕ → Outcome ℕ
+    taken g = cond (leb d g) (answered g) (laterOf es u g)
 
 pub by-image-numbered : (b : List ℕ) (answer : List Entry → Outcome ℕ) → ((es : List Entry) → Numbered (answer es))
     → Numbered (byImage b answer)

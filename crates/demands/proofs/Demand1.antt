@@ -4,6 +4,7 @@ pub mod Weeks
 pub mod Scales
 pub mod CivilTimes
 pub mod Conversions
+pub mod Shifted
 pub mod ReadTables
 pub mod ReadLists
 pub mod WrittenTables

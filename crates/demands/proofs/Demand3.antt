@@ -32,46 +32,43 @@ use Rattle.demands.proofs.WayBack.{two-instants}
 pub by-regular-lists : (es : List Entry) → regular es ≡ true → TwoInstants es taiMinusGps 0 (gpsToUtc es) (utcToGps es)
 by-regular-lists es r = two-instants es (leaps es) (counted es r)
 
--- two calls that answer as the definitions do
-of-pair : (es : List Entry) → regular es ≡ true → {There Back : ℕ → Outcome ℕ → Type 0}
-    → ((g : ℕ) (o : Outcome ℕ) → There g o → o ≡ gpsToUtc es g)
-    → ((u : ℕ) (o : Outcome ℕ) → Back u o → o ≡ utcToGps es u)
-    → TwoInstantsOf es There Back
-of-pair es r to from there back a b =
-    kept es taiMinusGps 0 (λ g l. to g (there g) (a g l)) (λ u l. from u (back u) (b u l)) (by-regular-lists es r)
+-- two calls that answer as two definitions do
+module _ (es : List Entry) (lead : ℕ) {f g : ℕ → Outcome ℕ} (t : TwoInstants es lead 0 f g) where
+  pub of-pair : {There Back : ℕ → Outcome ℕ → Type 0} → ((n : ℕ) (o : Outcome ℕ) → There n o → o ≡ f n)
+      → ((u : ℕ) (o : Outcome ℕ) → Back u o → o ≡ g u) → TwoInstantsOf es lead There Back
+  of-pair to from there back a b = kept es lead 0 (λ n l. to n (there n) (a n l)) (λ u l. from u (back u) (b u l)) t
 
 module _ {Lifetimes : Type 0} {Arguments Answer End : Lifetimes → Type 0}
     {Contract : (κ : Lifetimes) → Arguments κ → Answer κ → End κ → Type 0}
     {Asks : (κ : Lifetimes) → Arguments κ → Type 0} {tells : (κ : Lifetimes) → Answer κ → End κ → Outcome ℕ} where
   -- a contract that says d of an input allows nothing else
-  allowed : (d : Outcome ℕ)
+  pub allowed : (d : Outcome ℕ)
       → ((κ : Lifetimes) (a : Arguments κ) (r : Answer κ) (e : End κ) → Asks κ a → Contract κ a r e → tells κ r e ≡ d)
       → (o : Outcome ℕ) → Allows Contract Asks tells o → o ≡ d
   allowed d says o (κ, a, r, e, asks, holds, tells) = sym tells ∙ says κ a r e asks holds
 
 -- the same by a regular table, which is valid: no 8 comes first
-of-table : (t : LeapTable) → Regular t → {There Back : ℕ → Outcome ℕ → Type 0}
-    → ((g : ℕ) (o : Outcome ℕ) → There g o → o ≡ ofValid t (gpsToUtc (entriesOf t) g))
-    → ((u : ℕ) (o : Outcome ℕ) → Back u o → o ≡ ofValid t (utcToGps (entriesOf t) u))
-    → TwoInstantsOf (entriesOf t) There Back
-of-table t (short, r) to from =
-    of-pair (entriesOf t) r
-    (λ g o a. to g o a ∙ sym (good t _ is-valid))
-    (λ u o a. from u o a ∙ sym (good t _ is-valid))
-  where
-    is-valid : validTable t ≡ true
-    is-valid =
-        rw (le-leb (t .len) 64 (omega (arith, short)))
-        (valid-tested (entriesOf t) .1 (regular-tested (entriesOf t) .0 r .valid))
+module _ (t : LeapTable) (r : Regular t) (lead : ℕ) {f g : ℕ → Outcome ℕ} (i : TwoInstants (entriesOf t) lead 0 f g) where
+  is-valid : validTable t ≡ true
+  is-valid =
+      rw (le-leb (t .len) 64 (omega (arith, r .0)))
+      (valid-tested (entriesOf t) .1 (regular-tested (entriesOf t) .0 (r .1) .valid))
+
+  pub of-table : {There Back : ℕ → Outcome ℕ → Type 0} → ((n : ℕ) (o : Outcome ℕ) → There n o → o ≡ ofValid t (f n))
+      → ((u : ℕ) (o : Outcome ℕ) → Back u o → o ≡ ofValid t (g u)) → TwoInstantsOf (entriesOf t) lead There Back
+  of-table to from =
+      of-pair (entriesOf t) lead i
+      (λ n o a. to n o a ∙ sym (good t _ is-valid))
+      (λ u o a. from u o a ∙ sym (good t _ is-valid))
 
 -- what the table in an image b answers for n
 module _ (convert : List Entry → ℕ → Outcome ℕ) {b : List ℕ} (size : length b ≡ imageBytes) {n : ℕ} where
-  of-image : {b′ : List ℕ} {m : ℕ} → (m ≡ n) × (b′ ≡ b)
+  pub of-image : {b′ : List ℕ} {m : ℕ} → (m ≡ n) × (b′ ≡ b)
       → byImage b′ (λ es. convert es m) ≡ ofValid (tableIn b) (convert (entriesOf (tableIn b)) n)
   of-image (p, q) = (λ i. byImage (q i) (λ es. convert es (p i))) ∙ sym (of-size b _ _ size)
 
   -- a host reads it off the number and the value
-  as-told : ((es : List Entry) (m : ℕ) → Numbered (convert es m)) → {b′ : List ℕ} {m k v : ℕ} → (m ≡ n) × (b′ ≡ b)
+  pub as-told : ((es : List Entry) (m : ℕ) → Numbered (convert es m)) → {b′ : List ℕ} {m k v : ℕ} → (m ≡ n) × (b′ ≡ b)
       → Gives 0 (byImage b′ (λ es. convert es m)) k v
       → unless k v ≡ ofValid (tableIn b) (convert (entriesOf (tableIn b)) n)
   as-told numbered {b′} {m} asked p =
@@ -80,11 +77,11 @@ module _ (convert : List Entry → ℕ → Outcome ℕ) {b : List ℕ} (size : l
 pub demand-3 : Demand3
 demand-3 = record {
   by-value = λ t r.
-      of-table t r
-      (λ g. allowed _ (λ κ a r e q p. p ∙ (λ i. ofValid (q .1 i) (gpsToUtc (entriesOf (q .1 i)) (q .0 i)))))
-      (λ u. allowed _ (λ κ a r e q p. p ∙ (λ i. ofValid (q .1 i) (utcToGps (entriesOf (q .1 i)) (q .0 i)))));
+      of-table t r taiMinusGps (by-regular-lists (entriesOf t) (r .1))
+      (λ g. allowed _ (λ κ a x e q p. p ∙ (λ i. ofValid (q .1 i) (gpsToUtc (entriesOf (q .1 i)) (q .0 i)))))
+      (λ u. allowed _ (λ κ a x e q p. p ∙ (λ i. ofValid (q .1 i) (utcToGps (entriesOf (q .1 i)) (q .0 i)))));
   in-place = λ b size r.
-      of-table (tableIn b) r
+      of-table (tableIn b) r taiMinusGps (by-regular-lists (entriesOf (tableIn b)) (r .1))
       (λ g. allowed _ (λ κ a r e q p.
       p ∙ (λ i. byImage (now (a .1 .0)) (λ es. then (countIn (q .0 i)) (gpsToUtc es)))
       ∙ of-image gpsToUtc size {n = g} (refl, q .1)))
@@ -92,15 +89,15 @@ demand-3 = record {
       p ∙ (λ i. byImage (now (a .1 .0)) (λ es. then (countIn (q .0 i)) (utcToGps es)))
       ∙ of-image utcToGps size {n = u} (refl, q .1)));
   built-in =
-      of-pair builtin builtin-regular
+      of-pair builtin taiMinusGps (by-regular-lists builtin builtin-regular)
       (λ g. allowed _ (λ κ a r e q p. p ∙ ap (gpsToUtc builtin) q))
       (λ u. allowed _ (λ κ a r e q p. p ∙ ap (utcToGps builtin) q));
   exported = λ b size r.
-      of-table (tableIn b) r
+      of-table (tableIn b) r taiMinusGps (by-regular-lists (entriesOf (tableIn b)) (r .1))
       (λ g. allowed _ (λ κ a k e q p. as-told gpsToUtc size to-utc-numbered q p))
       (λ u. allowed _ (λ κ a k e q p. as-told utcToGps size to-gps-numbered q p));
   exported-built-in =
-      of-pair builtin builtin-regular
+      of-pair builtin taiMinusGps (by-regular-lists builtin builtin-regular)
       (λ g. allowed _ (λ κ a k e q p. told-is 0 _ (to-utc-numbered builtin (a .0)) p ∙ ap (gpsToUtc builtin) q))
       (λ u. allowed _ (λ κ a k e q p. told-is 0 _ (to-gps-numbered builtin (a .0)) p ∙ ap (utcToGps builtin) q));
 }

@@ -1,7 +1,6 @@
 -- Demand 3 carries over to a scale whose counts are d less than another's. Its conversions go by way of the other
 -- scale; they have two instants from 0 on if those of the other scale have them from d on.
 use mathlib.Core.Path.{_≡_, refl, ap, _∙_, subst}
-use mathlib.Core.Bool.{true}
 use mathlib.Core.List.{List}
 use Prim.Native.Nat.{ℕ, _+_, _-_, _^_, _≤_, _<_}
 use native.Mathlib.Omega.{arith}
@@ -11,11 +10,8 @@ use Rattle.refusals.proofs.Steps.{goes-on, stops}
 use Rattle.counts.specs.Exact.{up, down}
 use Rattle.counts.proofs.Difference.{not-below, of-naturals}
 use Rattle.counts.proofs.Fitting.{is-count}
-use Rattle.scales.specs.Scales.{taiMinusGps}
-use Rattle.tables.specs.Entries.{Entry, regular}
-use Rattle.conversions.specs.Conversions.{gpsToUtc, utcToGps}
+use Rattle.tables.specs.Entries.{Entry}
 use Rattle.demands.specs.TwoInstants.{Converts, InFirstSecond, TwoInstants}
-use Rattle.demands.proofs.Demand3.{by-regular-lists}
 use Rattle.demands.proofs.OnNaturals.{went-on}
 
 module _ (es : List Entry) (lead d : ℕ) {there back : ℕ → Outcome ℕ} (t : TwoInstants es lead d there back) where
@@ -66,8 +62,3 @@ module _ (es : List Entry) (lead d : ℕ) {there back : ℕ → Outcome ℕ} (t 
         t .at-most-two (n₁ + d) (n₂ + d) (n₃ + d) u (above c₁) (above c₂) (above c₃)
         (λ e. n₁≢n₂ (omega (arith, e))) (λ e. n₂≢n₃ (omega (arith, e))) (λ e. n₁≢n₃ (omega (arith, e)));
   }
-
--- GPS counts less 0 are GPS counts
-pub none-less : (es : List Entry) → regular es ≡ true
-    → TwoInstants es taiMinusGps 0 (λ n. then (up 0 n) (gpsToUtc es)) (λ u. then (utcToGps es u) (down 0))
-none-less es r = counts-less es taiMinusGps 0 (by-regular-lists es r)

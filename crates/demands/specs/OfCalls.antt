@@ -1,4 +1,4 @@
--- Demand 3 of the calls that convert, pair by pair: it holds of whatever their contracts allow them to answer.
+-- Demand 3 of the calls between GPS and UTC, pair by pair: it holds of whatever their contracts allow them to answer.
 use mathlib.Core.Path.{_≡_}
 use mathlib.Core.Bool.{true}
 use mathlib.Core.List.{List}
@@ -36,11 +36,11 @@ module _ {Lifetimes : Type 0} {Arguments Answer End : Lifetimes → Type 0}
       (κ : Lifetimes) × (a : Arguments κ) × (r : Answer κ) × (e : End κ)
       × Asks κ a × Contract κ a r e × (tells κ r e ≡ o)
 
--- of GPS to UTC and back: whatever two calls answer to each count of 64 bits, as far as they are allowed to
-abbrev pub TwoInstantsOf : List Entry → (There Back : ℕ → Outcome ℕ → Type 0) → Type 0
-TwoInstantsOf es There Back =
-    (there back : ℕ → Outcome ℕ) → ((g : ℕ) → g < 2 ^ 64 → There g (there g)) → ((u : ℕ) → u < 2 ^ 64 → Back u (back u))
-    → TwoInstants es taiMinusGps 0 there back
+-- of a scale to UTC and back: whatever two calls answer to each count of 64 bits, as far as they are allowed to
+abbrev pub TwoInstantsOf : List Entry → (lead : ℕ) → (There Back : ℕ → Outcome ℕ → Type 0) → Type 0
+TwoInstantsOf es lead There Back =
+    (there back : ℕ → Outcome ℕ) → ((n : ℕ) → n < 2 ^ 64 → There n (there n)) → ((u : ℕ) → u < 2 ^ 64 → Back u (back u))
+    → TwoInstants es lead 0 there back
 
 -- a table that says it has at most 64 entries, and they are regular
 abbrev pub Regular : LeapTable → Type 0
@@ -48,22 +48,22 @@ Regular t = (t .len ≤ 64) × (regular (entriesOf t) ≡ true)
 
 pub record Demand3 : Type 0 where
   -- `conversions::gps_to_utc` and `utc_to_gps`, by a table
-  pub by-value : (t : LeapTable) → Regular t → TwoInstantsOf (entriesOf t)
+  pub by-value : (t : LeapTable) → Regular t → TwoInstantsOf (entriesOf t) taiMinusGps
       (λ g. Allows gps-to-utc.Post (λ κ a. (a .0 .0 ≡ g) × (a .1 .0 ≡ t)) (λ κ r e. utcIn r))
       (λ u. Allows utc-to-gps.Post (λ κ a. (a .0 .0 ≡ u) × (a .1 .0 ≡ t)) (λ κ r e. gpsIn r))
   -- `images::table::utc_from_gps` and `gps_from_utc`, by an image
-  pub in-place : (b : List ℕ) → length b ≡ imageBytes → Regular (tableIn b) → TwoInstantsOf (entriesOf (tableIn b))
+  pub in-place : (b : List ℕ) → length b ≡ imageBytes → Regular (tableIn b) → TwoInstantsOf (entriesOf (tableIn b)) taiMinusGps
       (λ g. Allows image-utc-from-gps.Post (λ κ a. (a .0 ≡ count.Count g) × (now (a .1 .0) ≡ b)) (λ κ r e. countIn r))
       (λ u. Allows image-gps-from-utc.Post (λ κ a. (a .0 ≡ count.Count u) × (now (a .1 .0) ≡ b)) (λ κ r e. countIn r))
   -- `builtin::gps_to_utc` and `utc_to_gps`
-  pub built-in : TwoInstantsOf builtin
+  pub built-in : TwoInstantsOf builtin taiMinusGps
       (λ g. Allows builtin-gps-to-utc.Post (λ κ a. a .0 .0 ≡ g) (λ κ r e. utcIn r))
       (λ u. Allows builtin-utc-to-gps.Post (λ κ a. a .0 .0 ≡ u) (λ κ r e. gpsIn r))
   -- `plaitgate_table_gps_to_utc` and `plaitgate_table_utc_to_gps`, by an image
-  pub exported : (b : List ℕ) → length b ≡ imageBytes → Regular (tableIn b) → TwoInstantsOf (entriesOf (tableIn b))
+  pub exported : (b : List ℕ) → length b ≡ imageBytes → Regular (tableIn b) → TwoInstantsOf (entriesOf (tableIn b)) taiMinusGps
       (λ g. Allows host-to-utc.Post (λ κ a. (a .0 ≡ g) × (now (a .1 .0) ≡ b)) (λ κ k e. unless k (now (e .1 .1 .0))))
       (λ u. Allows host-to-gps.Post (λ κ a. (a .0 ≡ u) × (now (a .1 .0) ≡ b)) (λ κ k e. unless k (now (e .1 .1 .0))))
   -- `plaitgate_builtin_gps_to_utc` and `plaitgate_builtin_utc_to_gps`
-  pub exported-built-in : TwoInstantsOf builtin
+  pub exported-built-in : TwoInstantsOf builtin taiMinusGps
       (λ g. Allows host-builtin-gps-to-utc.Post (λ κ a. a .0 ≡ g) (λ κ k e. unless k (now (e .1 .0))))
       (λ u. Allows host-builtin-utc-to-gps.Post (λ κ a. a .0 ≡ u) (λ κ k e. unless k (now (e .1 .0))))

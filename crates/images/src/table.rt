@@ -9,15 +9,20 @@ ghost use Rattle.counts.specs.Answers.{countIn};
 ghost use Rattle.tables.specs.Entries.{entry, offsetAt, currentOffset, lastUpdate};
 ghost use Rattle.tables.specs.Answers.{takenIn, tableAnswerIn, lengthIn, emptyIn, entryIn, updateIn, offsetIn};
 ghost use Rattle.conversions.specs.Conversions.{gpsToUtc, utcToGps};
+ghost use Rattle.conversions.specs.Shifted.{shiftedToUtc, utcToShifted};
 ghost use Rattle.images.specs.Image.{byImage, imageRead, imageWritten, builtFrom, imageExtended};
 use crate::inner;
 use crate::inner::lookup;
 use crate::inner::lookup::is_valid;
 use crate::inner::slots;
+use conversions::inner::count_or;
 use conversions::inner::first_reading_of;
 use conversions::inner::gps_from_lookup;
 use conversions::inner::last_reading_of;
+use conversions::inner::later::just_before;
+use conversions::inner::later::later_of;
 use conversions::inner::reading_of;
+use conversions::inner::steps;
 use conversions::inner::tai_of;
 use conversions::inner::utc_from_lookup;
 use counts::CountAnswer;
@@ -201,4 +206,25 @@ pub fn gps_from_utc(utc: CountAnswer, image: &[u8]) -> CountAnswer
         }
         LookupAnswer::Refused(why) => CountAnswer::Refused(why),
     }
+}
+
+// A scale that is behind GPS, to UTC: the difference is added, then as `utc_from_gps`.
+pub fn utc_from_shifted(count: CountAnswer, image: &[u8], behind: u64) -> CountAnswer
+    ensures { λ r. ⌜ countIn r ≡ byImage (now (image .entry)) (λ es. then (countIn count) (shiftedToUtc behind es)) ⌝ }
+{
+    utc_from_gps(steps::up(count, behind), image)
+}
+
+// UTC to a scale that is behind GPS: as `gps_from_utc`, then 1 before the scale's epoch. The table is copied in the last
+// second before the epoch alone, to look for the later of two GPS counts.
+pub fn shifted_from_utc(utc: CountAnswer, image: &[u8], behind: u64) -> CountAnswer
+    ensures { λ r. ⌜ countIn r ≡ byImage (now (image .entry)) (λ es. then (countIn utc) (utcToShifted behind es)) ⌝ }
+{
+    let gps = gps_from_utc(utc, image);
+    if just_before(gps, behind) {
+        let table = inner::table_in(image);
+        let later = later_of(count_or(gps, 0), count_or(utc, 0), table);
+        return steps::down(later, behind);
+    }
+    steps::down(gps, behind)
 }

@@ -3,14 +3,19 @@
 // include/plaitgate.h declares them.
 
 // every scale, by tools/write-scales
+pub mod galileo;
 pub mod glonass;
 pub mod gps;
 pub mod tai;
 pub mod utc;
 // end of every scale
 // scales with weeks, by tools/write-scales
+pub mod galileo_weeks;
 pub mod gps_weeks;
 // end of scales with weeks
+// shifted scales, by tools/write-scales
+pub mod galileo_conversions;
+// end of shifted scales
 pub mod by_builtin;
 pub mod by_table;
 pub mod civil_dates;

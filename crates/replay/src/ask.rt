@@ -2,14 +2,19 @@
 // them.
 
 // every scale, by tools/write-scales
+mod galileo;
 mod glonass;
 mod gps;
 mod tai;
 mod utc;
 // end of every scale
 // scales with weeks, by tools/write-scales
+mod galileo_weeks;
 mod gps_weeks;
 // end of scales with weeks
+// shifted scales, by tools/write-scales
+mod galileo_conversions;
+// end of shifted scales
 mod by_builtin;
 mod by_table;
 pub mod changes;

@@ -1,14 +1,19 @@
 // What the calls by value answer to a question of the recorded list: the port itself, with no C boundary.
 
 // every scale, by tools/write-scales
+mod galileo;
 mod glonass;
 mod gps;
 mod tai;
 mod utc;
 // end of every scale
 // scales with weeks, by tools/write-scales
+mod galileo_weeks;
 mod gps_weeks;
 // end of scales with weeks
+// shifted scales, by tools/write-scales
+mod galileo_conversions;
+// end of shifted scales
 mod by_builtin;
 mod by_table;
 mod changes;

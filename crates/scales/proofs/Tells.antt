@@ -4,7 +4,7 @@ use mathlib.Core.Path.{_≡_, ap}
 use Prim.Native.Nat.{ℕ}
 use Rattle.refusals.specs.Number.{numberOf}
 use Rattle.refusals.proofs.Tells.{number-tells}
-use Rattle.scales.specs.Answers.{gpsIn, utcIn, glonassIn, taiIn}
+use Rattle.scales.specs.Answers.{gpsIn, utcIn, glonassIn, taiIn, galileoIn}
 use Rattle.scales.specs.declared.gps.Gps.{Gps}
 use Rattle.scales.specs.declared.gps.GpsAnswer.{GpsAnswer}
 use Rattle.scales.specs.declared.gps.GpsAnswer.the-variants as gps
@@ -17,6 +17,9 @@ use Rattle.scales.specs.declared.glonass.GlonassAnswer.the-variants as g
 use Rattle.scales.specs.declared.tai.Tai.{Tai}
 use Rattle.scales.specs.declared.tai.TaiAnswer.{TaiAnswer}
 use Rattle.scales.specs.declared.tai.TaiAnswer.the-variants as tai
+use Rattle.scales.specs.declared.galileo.Galileo.{Galileo}
+use Rattle.scales.specs.declared.galileo.GalileoAnswer.{GalileoAnswer}
+use Rattle.scales.specs.declared.galileo.GalileoAnswer.the-variants as galileo
 
 pub gps-count-tells : (x y : Gps) → x .0 ≡ y .0 → x ≡ y
 gps-count-tells x y e = ap (λ (n : ℕ). record { 0 = n }) e
@@ -53,3 +56,12 @@ tai-tells (tai.Count s) (tai.Count t) e = ap tai.Count (tai-count-tells s t (cc)
 tai-tells (tai.Count s) (tai.Refused r) e = cc
 tai-tells (tai.Refused r) (tai.Count t) e = cc
 tai-tells (tai.Refused q) (tai.Refused r) e = ap tai.Refused (number-tells q r (cc))
+
+pub galileo-count-tells : (x y : Galileo) → x .0 ≡ y .0 → x ≡ y
+galileo-count-tells x y e = ap (λ (n : ℕ). record { 0 = n }) e
+
+pub galileo-tells : (x y : GalileoAnswer) → galileoIn x ≡ galileoIn y → x ≡ y
+galileo-tells (galileo.Count s) (galileo.Count t) e = ap galileo.Count (galileo-count-tells s t (cc))
+galileo-tells (galileo.Count s) (galileo.Refused r) e = cc
+galileo-tells (galileo.Refused r) (galileo.Count t) e = cc
+galileo-tells (galileo.Refused q) (galileo.Refused r) e = ap galileo.Refused (number-tells q r (cc))

@@ -11,6 +11,8 @@ use Rattle.scales.specs.declared.glonass.GlonassAnswer.{GlonassAnswer}
 use Rattle.scales.specs.declared.glonass.GlonassAnswer.the-variants as glonass
 use Rattle.scales.specs.declared.tai.TaiAnswer.{TaiAnswer}
 use Rattle.scales.specs.declared.tai.TaiAnswer.the-variants as tai
+use Rattle.scales.specs.declared.galileo.GalileoAnswer.{GalileoAnswer}
+use Rattle.scales.specs.declared.galileo.GalileoAnswer.the-variants as galileo
 
 abbrev pub gpsIn : GpsAnswer → Outcome ℕ
 gpsIn (gps.Count t) = answered (t .0)
@@ -27,3 +29,7 @@ glonassIn (glonass.Refused r) = refused (numberOf r)
 abbrev pub taiIn : TaiAnswer → Outcome ℕ
 taiIn (tai.Count t) = answered (t .0)
 taiIn (tai.Refused r) = refused (numberOf r)
+
+abbrev pub galileoIn : GalileoAnswer → Outcome ℕ
+galileoIn (galileo.Count t) = answered (t .0)
+galileoIn (galileo.Refused r) = refused (numberOf r)

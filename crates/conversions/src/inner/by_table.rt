@@ -1,13 +1,19 @@
-// GPS to UTC and UTC to GPS by a table that is held by value. An invalid table is refused with 8 before anything else.
+// GPS to UTC and UTC to GPS by a table that is held by value, and the same of a scale that is behind GPS by a fixed
+// number of nanoseconds. An invalid table is refused with 8 before anything else.
 ghost use mathlib.Core.Path.{_≡_};
 ghost use Rattle.refusals.specs.Outcome.{then};
 ghost use Rattle.counts.specs.Answers.{countIn};
 ghost use Rattle.tables.specs.Slots.{entriesOf, ofValid};
 ghost use Rattle.conversions.specs.Conversions.{gpsToUtc, utcToGps};
+ghost use Rattle.conversions.specs.Shifted.{shiftedToUtc, utcToShifted};
+use crate::inner::count_or;
 use crate::inner::first_reading_of;
 use crate::inner::gps_from_lookup;
 use crate::inner::last_reading_of;
+use crate::inner::later::just_before;
+use crate::inner::later::later_of;
 use crate::inner::reading_of;
+use crate::inner::steps;
 use crate::inner::tai_of;
 use crate::inner::utc_from_lookup;
 use counts::CountAnswer;
@@ -37,4 +43,21 @@ pub fn gps_from_utc(utc: CountAnswer, table: LeapTable) -> CountAnswer
         }
         LookupAnswer::Refused(why) => CountAnswer::Refused(why),
     }
+}
+
+pub fn utc_from_shifted(count: CountAnswer, table: LeapTable, behind: u64) -> CountAnswer
+    ensures { λ r. ⌜ countIn r ≡ ofValid table (then (countIn count) (shiftedToUtc behind (entriesOf table))) ⌝ }
+{
+    utc_from_gps(steps::up(count, behind), table)
+}
+
+pub fn shifted_from_utc(utc: CountAnswer, table: LeapTable, behind: u64) -> CountAnswer
+    ensures { λ r. ⌜ countIn r ≡ ofValid table (then (countIn utc) (utcToShifted behind (entriesOf table))) ⌝ }
+{
+    let gps = gps_from_utc(utc, table);
+    if just_before(gps, behind) {
+        let later = later_of(count_or(gps, 0), count_or(utc, 0), table);
+        return steps::down(later, behind);
+    }
+    steps::down(gps, behind)
 }

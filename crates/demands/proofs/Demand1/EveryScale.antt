@@ -10,6 +10,7 @@ use Rattle.plaitgate.proofs.gps
 use Rattle.plaitgate.proofs.utc
 use Rattle.plaitgate.proofs.glonass
 use Rattle.plaitgate.proofs.tai
+use Rattle.plaitgate.proofs.galileo
 use Rattle.demands.specs.RefusalsLeave.{ZerosOnRefusal}
 
 pub gps-checked-from-seconds : ZerosOnRefusal gps.plaitgate_gps_checked_from_seconds.Reads.Post
@@ -71,3 +72,18 @@ tai-checked-sub-duration κ a k e = zeros-on-refusal (countOf (pos (a .0) -ℤ a
 pub tai-checked-elapsed : ZerosOnRefusal tai.plaitgate_tai_checked_elapsed.Reads.Post
     (pos 0) (λ κ e. now (e .1 .1 .0))
 tai-checked-elapsed κ a k e = zeros-on-refusal (durationOf (pos (a .0) -ℤ pos (a .1 .0)))
+
+pub galileo-checked-from-seconds : ZerosOnRefusal galileo.plaitgate_galileo_checked_from_seconds.Reads.Post
+    0 (λ κ e. now (e .1 .0))
+galileo-checked-from-seconds κ a k e = zeros-on-refusal (countOf (pos (a .0 * second)))
+
+pub galileo-checked-add : ZerosOnRefusal galileo.plaitgate_galileo_checked_add.Reads.Post 0 (λ κ e. now (e .1 .1 .0))
+galileo-checked-add κ a k e = zeros-on-refusal (countOf (pos (a .0) +ℤ a .1 .0))
+
+pub galileo-checked-sub-duration : ZerosOnRefusal galileo.plaitgate_galileo_checked_sub_duration.Reads.Post
+    0 (λ κ e. now (e .1 .1 .0))
+galileo-checked-sub-duration κ a k e = zeros-on-refusal (countOf (pos (a .0) -ℤ a .1 .0))
+
+pub galileo-checked-elapsed : ZerosOnRefusal galileo.plaitgate_galileo_checked_elapsed.Reads.Post
+    (pos 0) (λ κ e. now (e .1 .1 .0))
+galileo-checked-elapsed κ a k e = zeros-on-refusal (durationOf (pos (a .0) -ℤ pos (a .1 .0)))

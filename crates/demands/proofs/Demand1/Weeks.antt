@@ -4,8 +4,13 @@ use denote.Ref.{now}
 use Rattle.refusals.proofs.Given.{zeros-on-refusal}
 use Rattle.counts.specs.Units.{weekSeconds, ofUnits}
 use Rattle.plaitgate.proofs.gps_weeks
+use Rattle.plaitgate.proofs.galileo_weeks
 use Rattle.demands.specs.RefusalsLeave.{ZerosOnRefusal}
 
 pub gps-from-week-tow : ZerosOnRefusal gps_weeks.plaitgate_gps_from_week_tow.Reads.Post 0
     (λ κ e. now (e .1 .1 .1 .0))
 gps-from-week-tow κ a k e = zeros-on-refusal (ofUnits weekSeconds (a .0) (a .1 .0) (a .1 .1 .0))
+
+pub galileo-from-week-tow : ZerosOnRefusal galileo_weeks.plaitgate_galileo_from_week_tow.Reads.Post 0
+    (λ κ e. now (e .1 .1 .1 .0))
+galileo-from-week-tow κ a k e = zeros-on-refusal (ofUnits weekSeconds (a .0) (a .1 .0) (a .1 .1 .0))

@@ -53,3 +53,9 @@ utc-from-gps κ a x y e f p q = viewed count-tells x y p q
 
 pub gps-from-utc : OneAnswer table.gps_from_utc.Reads.Post
 gps-from-utc κ a x y e f p q = viewed count-tells x y p q
+
+pub utc-from-shifted : OneAnswer table.utc_from_shifted.Reads.Post
+utc-from-shifted κ a x y e f p q = viewed count-tells x y p q
+
+pub shifted-from-utc : OneAnswer table.shifted_from_utc.Reads.Post
+shifted-from-utc κ a x y e f p q = viewed count-tells x y p q

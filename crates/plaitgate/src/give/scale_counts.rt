@@ -2,7 +2,8 @@
 // The answers of each scale.
 ghost use mathlib.Core.Path.{_≡_};
 ghost use Rattle.refusals.specs.Outcome.{Gives};
-ghost use Rattle.scales.specs.Answers.{gpsIn, utcIn, glonassIn, taiIn};
+ghost use Rattle.scales.specs.Answers.{gpsIn, utcIn, glonassIn, taiIn, galileoIn};
+use scales::galileo::GalileoAnswer;
 use scales::glonass::GlonassAnswer;
 use scales::gps::GpsAnswer;
 use scales::tai::TaiAnswer;
@@ -62,6 +63,21 @@ pub fn tai_count(answer: TaiAnswer, out: &mut u64) -> u32
             0
         }
         TaiAnswer::Refused(r) => {
+            *out = 0;
+            r.number()
+        }
+    }
+}
+
+pub fn galileo_count(answer: GalileoAnswer, out: &mut u64) -> u32
+    ensures { λ r. ⌜ Gives 0 (galileoIn answer) r (now (out .exit)) ⌝ }
+{
+    match answer {
+        GalileoAnswer::Count(t) => {
+            *out = t.0;
+            0
+        }
+        GalileoAnswer::Refused(r) => {
             *out = 0;
             r.number()
         }

@@ -1,6 +1,7 @@
 // Written by tools/write-scales from its template in tools/templates.
 // The answers of each scale.
 use crate::reply::Reply;
+use scales::galileo::GalileoAnswer;
 use scales::glonass::GlonassAnswer;
 use scales::gps::GpsAnswer;
 use scales::tai::TaiAnswer;
@@ -31,5 +32,12 @@ pub fn tai(answer: TaiAnswer) -> Reply {
     match answer {
         TaiAnswer::Count(t) => Reply::one(0, t.0),
         TaiAnswer::Refused(why) => Reply::refused(why),
+    }
+}
+
+pub fn galileo(answer: GalileoAnswer) -> Reply {
+    match answer {
+        GalileoAnswer::Count(t) => Reply::one(0, t.0),
+        GalileoAnswer::Refused(why) => Reply::refused(why),
     }
 }

@@ -1,3 +1,4 @@
+-- Written by tools/write-scales from its template in tools/templates.
 -- `Gps::from_week_tow`: `GpsAnswer::of` keeps the outcome of the plain call.
 use mathlib.Core.Path.{_∙_}
 use Rattle.scales.proofs.gps.Gps.from_week_tow as call

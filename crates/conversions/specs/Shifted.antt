@@ -1,0 +1,38 @@
+-- Conversions of a scale whose counts are those of GPS less a fixed number d of nanoseconds: it begins where the GPS
+-- count is d.
+use mathlib.Core.Bool.{Bool, false, cond, _&&_}
+use mathlib.Core.List.{List}
+use Prim.Native.Nat.{ℕ, _+_}
+use lib.Dec.{leb, eqb}
+use Rattle.refusals.specs.Outcome.{Outcome, answered, refused, then}
+use Rattle.counts.specs.Exact.{up, down}
+use Rattle.counts.specs.Units.{second}
+use Rattle.tables.specs.Entries.{Entry, regular}
+use Rattle.conversions.specs.Conversions.{glonassEpoch, gpsToUtc, utcToGps}
+
+abbrev pub shiftedToUtc : ℕ → List Entry → ℕ → Outcome ℕ
+shiftedToUtc d es n = then (up d n) (gpsToUtc es)
+
+-- whether an outcome is the answer n
+abbrev pub answers : Outcome ℕ → ℕ → Bool
+answers (answered m) n = eqb m n
+answers (refused k) n = false
+
+-- the later of two GPS counts that share a UTC count under a regular table, a second after the earlier; 1 where there is
+-- none
+abbrev pub laterOf : List Entry → ℕ → ℕ → Outcome ℕ
+laterOf es utc earlier =
+    let later = earlier + second in
+    cond (regular es && answers (gpsToUtc es later) utc) (answered later) (refused 1)
+
+-- by the later GPS count where the earlier lies before the scale's epoch
+abbrev pub utcToShifted : ℕ → List Entry → ℕ → Outcome ℕ
+utcToShifted d es utc =
+    then (utcToGps es utc) (λ gps. then (cond (leb d gps) (answered gps) (laterOf es utc gps)) (down d))
+
+-- ---- by way of UTC
+abbrev pub shiftedToGlonass : ℕ → List Entry → ℕ → Outcome ℕ
+shiftedToGlonass d es n = then (shiftedToUtc d es n) (down glonassEpoch)
+
+abbrev pub glonassToShifted : ℕ → List Entry → ℕ → Outcome ℕ
+glonassToShifted d es glonass = then (up glonassEpoch glonass) (utcToShifted d es)

@@ -1,0 +1,60 @@
+-- Written by tools/write-scales from its template in tools/templates.
+-- Demand 3 of the calls between UTC and a scale at a fixed difference: by their contracts they answer what `shiftedToUtc`
+-- and `utcToShifted` say, and Shifted.antt proves it of these for any difference.
+use mathlib.Core.Path.{_≡_, refl, ap, _∙_}
+use mathlib.Core.Bool.{true}
+use Prim.Native.Nat.{ℕ, _+_}
+use denote.Ref.{now}
+use Rattle.refusals.specs.Outcome.{then}
+use Rattle.refusals.proofs.Given.{told-is}
+use Rattle.counts.specs.Answers.{countIn}
+use Rattle.scales.specs.Scales.{taiMinusGps, gpsMinusGalileo}
+use Rattle.tables.specs.Slots.{entriesOf, ofValid}
+use Rattle.tables.specs.declared.LeapTable.{LeapTable}
+use Rattle.images.specs.Image.{tableIn, byImage}
+use Rattle.conversions.specs.Shifted.{shiftedToUtc, utcToShifted}
+use Rattle.builtin.specs.Builtin.{builtin}
+use Rattle.builtin.proofs.Regular.{builtin-regular}
+use Rattle.demands.specs.TwoInstants.{TwoInstants}
+use Rattle.demands.specs.OfCalls.{Regular}
+use Rattle.demands.specs.OfShifted.{Demand3Shifted}
+use Rattle.demands.proofs.AnswerOrRefusal.{shifted-to-utc-numbered, utc-to-shifted-numbered}
+use Rattle.demands.proofs.Demand3.{of-pair, of-table, allowed, of-image, as-told}
+use Rattle.demands.proofs.Shifted.{shifted-instants}
+
+pub demand-3-shifted : Demand3Shifted
+demand-3-shifted = record {
+  in-place = λ d b size r.
+      of-table (tableIn b) r (taiMinusGps + d) (shifted-instants (entriesOf (tableIn b)) (r .1) d)
+      (λ n. allowed _ (λ κ a x e q p.
+      p ∙ (λ i. byImage (now (a .1 .0)) (λ es. then (countIn (q .0 i)) (shiftedToUtc (q .2 i) es)))
+      ∙ of-image (shiftedToUtc d) size {n = n} (refl, q .1)))
+      (λ u. allowed _ (λ κ a x e q p.
+      p ∙ (λ i. byImage (now (a .1 .0)) (λ es. then (countIn (q .0 i)) (utcToShifted (q .2 i) es)))
+      ∙ of-image (utcToShifted d) size {n = u} (refl, q .1)));
+  galileo-by-value = λ t r.
+      of-table t r (taiMinusGps + gpsMinusGalileo) (shifted-instants (entriesOf t) (r .1) gpsMinusGalileo)
+      (λ n. allowed _ (λ κ a x e q p.
+      p ∙ (λ i. ofValid (q .1 i) (shiftedToUtc gpsMinusGalileo (entriesOf (q .1 i)) (q .0 i)))))
+      (λ u. allowed _ (λ κ a x e q p.
+      p ∙ (λ i. ofValid (q .1 i) (utcToShifted gpsMinusGalileo (entriesOf (q .1 i)) (q .0 i)))));
+  galileo-built-in =
+      of-pair builtin (taiMinusGps + gpsMinusGalileo) (shifted-instants builtin builtin-regular gpsMinusGalileo)
+      (λ n. allowed _ (λ κ a x e q p. p ∙ ap (shiftedToUtc gpsMinusGalileo builtin) q))
+      (λ u. allowed _ (λ κ a x e q p. p ∙ ap (utcToShifted gpsMinusGalileo builtin) q));
+  galileo-exported = λ b size r.
+      of-table (tableIn b) r (taiMinusGps + gpsMinusGalileo)
+      (shifted-instants (entriesOf (tableIn b)) (r .1) gpsMinusGalileo)
+      (λ n. allowed _ (λ κ a k e q p.
+      as-told (shiftedToUtc gpsMinusGalileo) size (shifted-to-utc-numbered gpsMinusGalileo) q p))
+      (λ u. allowed _ (λ κ a k e q p.
+      as-told (utcToShifted gpsMinusGalileo) size (utc-to-shifted-numbered gpsMinusGalileo) q p));
+  galileo-exported-built-in =
+      of-pair builtin (taiMinusGps + gpsMinusGalileo) (shifted-instants builtin builtin-regular gpsMinusGalileo)
+      (λ n. allowed _ (λ κ a k e q p.
+      told-is 0 _ (shifted-to-utc-numbered gpsMinusGalileo builtin (a .0)) p
+      ∙ ap (shiftedToUtc gpsMinusGalileo builtin) q))
+      (λ u. allowed _ (λ κ a k e q p.
+      told-is 0 _ (utc-to-shifted-numbered gpsMinusGalileo builtin (a .0)) p
+      ∙ ap (utcToShifted gpsMinusGalileo builtin) q));
+}

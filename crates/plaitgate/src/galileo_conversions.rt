@@ -1,0 +1,123 @@
+// Written by tools/write-scales from its template in tools/templates.
+// Galileo to GPS, UTC and GLONASS, and back, by the built-in table and by one that the host holds as an image.
+ghost use Rattle.refusals.specs.Outcome.{Gives};
+ghost use Rattle.counts.specs.Exact.{up, down};
+ghost use Rattle.scales.specs.Scales.{gpsMinusGalileo};
+ghost use Rattle.conversions.specs.Shifted.{shiftedToUtc, utcToShifted, shiftedToGlonass, glonassToShifted};
+ghost use Rattle.builtin.specs.Builtin.{builtin};
+ghost use Rattle.images.specs.Image.{byImage};
+use crate::give;
+use builtin::inner::shifted;
+use conversions::inner::steps;
+use counts::CountAnswer;
+use images::table;
+use scales::galileo::Galileo;
+use scales::gps::Gps;
+
+#[no_mangle]
+pub extern "C" fn plaitgate_galileo_to_gps(galileo: u64, gps: &mut u64) -> u32
+    ensures { λ r. ⌜ Gives 0 (up gpsMinusGalileo galileo) r (now (gps .exit)) ⌝ }
+{
+    give::gps_count(Galileo(galileo).to_gps(), gps)
+}
+
+#[no_mangle]
+pub extern "C" fn plaitgate_gps_to_galileo(gps: u64, galileo: &mut u64) -> u32
+    ensures { λ r. ⌜ Gives 0 (down gpsMinusGalileo gps) r (now (galileo .exit)) ⌝ }
+{
+    give::galileo_count(Galileo::from_gps(Gps(gps)), galileo)
+}
+
+#[no_mangle]
+pub extern "C" fn plaitgate_builtin_galileo_to_utc(galileo: u64, utc: &mut u64) -> u32
+    ensures { λ r. ⌜ Gives 0 (shiftedToUtc gpsMinusGalileo builtin galileo) r (now (utc .exit)) ⌝ }
+{
+    let count = CountAnswer::Count(galileo);
+    give::count(
+        shifted::utc_from_shifted(count, Galileo::BEHIND_GPS_NS),
+        utc,
+    )
+}
+
+#[no_mangle]
+pub extern "C" fn plaitgate_builtin_utc_to_galileo(utc: u64, galileo: &mut u64) -> u32
+    ensures { λ r. ⌜ Gives 0 (utcToShifted gpsMinusGalileo builtin utc) r (now (galileo .exit)) ⌝ }
+{
+    let count = CountAnswer::Count(utc);
+    give::count(
+        shifted::shifted_from_utc(count, Galileo::BEHIND_GPS_NS),
+        galileo,
+    )
+}
+
+#[no_mangle]
+pub extern "C" fn plaitgate_builtin_galileo_to_glonass(galileo: u64, glonass: &mut u64) -> u32
+    ensures { λ r. ⌜ Gives 0 (shiftedToGlonass gpsMinusGalileo builtin galileo) r (now (glonass .exit)) ⌝ }
+{
+    let utc = shifted::utc_from_shifted(CountAnswer::Count(galileo), Galileo::BEHIND_GPS_NS);
+    give::count(steps::glonass_from_utc(utc), glonass)
+}
+
+#[no_mangle]
+pub extern "C" fn plaitgate_builtin_glonass_to_galileo(glonass: u64, galileo: &mut u64) -> u32
+    ensures { λ r. ⌜ Gives 0 (glonassToShifted gpsMinusGalileo builtin glonass) r (now (galileo .exit)) ⌝ }
+{
+    let utc = steps::utc_from_glonass(CountAnswer::Count(glonass));
+    give::count(
+        shifted::shifted_from_utc(utc, Galileo::BEHIND_GPS_NS),
+        galileo,
+    )
+}
+
+#[no_mangle]
+pub extern "C" fn plaitgate_table_galileo_to_utc(galileo: u64, image: &[u8], utc: &mut u64) -> u32
+    ensures { λ r. ⌜ Gives 0 (byImage (now (image .entry)) (λ es. shiftedToUtc gpsMinusGalileo es galileo)) r
+        (now (utc .exit)) ⌝ }
+{
+    let count = CountAnswer::Count(galileo);
+    give::count(
+        table::utc_from_shifted(count, image, Galileo::BEHIND_GPS_NS),
+        utc,
+    )
+}
+
+#[no_mangle]
+pub extern "C" fn plaitgate_table_utc_to_galileo(utc: u64, image: &[u8], galileo: &mut u64) -> u32
+    ensures { λ r. ⌜ Gives 0 (byImage (now (image .entry)) (λ es. utcToShifted gpsMinusGalileo es utc)) r
+        (now (galileo .exit)) ⌝ }
+{
+    let count = CountAnswer::Count(utc);
+    give::count(
+        table::shifted_from_utc(count, image, Galileo::BEHIND_GPS_NS),
+        galileo,
+    )
+}
+
+#[no_mangle]
+pub extern "C" fn plaitgate_table_galileo_to_glonass(
+    galileo: u64,
+    image: &[u8],
+    glonass: &mut u64,
+) -> u32
+    ensures { λ r. ⌜ Gives 0 (byImage (now (image .entry)) (λ es. shiftedToGlonass gpsMinusGalileo es galileo)) r
+        (now (glonass .exit)) ⌝ }
+{
+    let utc = table::utc_from_shifted(CountAnswer::Count(galileo), image, Galileo::BEHIND_GPS_NS);
+    give::count(steps::glonass_from_utc(utc), glonass)
+}
+
+#[no_mangle]
+pub extern "C" fn plaitgate_table_glonass_to_galileo(
+    glonass: u64,
+    image: &[u8],
+    galileo: &mut u64,
+) -> u32
+    ensures { λ r. ⌜ Gives 0 (byImage (now (image .entry)) (λ es. glonassToShifted gpsMinusGalileo es glonass)) r
+        (now (galileo .exit)) ⌝ }
+{
+    let utc = steps::utc_from_glonass(CountAnswer::Count(glonass));
+    give::count(
+        table::shifted_from_utc(utc, image, Galileo::BEHIND_GPS_NS),
+        galileo,
+    )
+}
