@@ -254,6 +254,45 @@ uint32_t plaitgate_galileo_checked_elapsed(uint64_t count, uint64_t earlier, int
    of a year of 365 days. Does not refuse. */
 uint32_t plaitgate_galileo_limits(uint64_t *epoch, uint64_t *min, uint64_t *max, uint64_t *nanos_per_year);
 
+/* ---- BeiDou ---- */
+
+/* The BeiDou count of a number of nanoseconds since the epoch: the same number. Does not refuse. */
+uint32_t plaitgate_beidou_from_nanos(uint64_t nanos, uint64_t *count);
+
+/* The nanoseconds of a BeiDou count since the epoch: the same number. Does not refuse. */
+uint32_t plaitgate_beidou_as_nanos(uint64_t count, uint64_t *nanos);
+
+/* The BeiDou count of a number of whole seconds since the epoch. Refuses with 1 above 18446744073 s. */
+uint32_t plaitgate_beidou_checked_from_seconds(uint64_t seconds, uint64_t *count);
+
+/* The whole seconds of a BeiDou count since the epoch, rounded down. Does not refuse. */
+uint32_t plaitgate_beidou_as_seconds(uint64_t count, uint64_t *seconds);
+
+/* The whole seconds of a BeiDou count and the nanoseconds left, 0 to 999999999. Does not refuse. */
+uint32_t plaitgate_beidou_as_parts(uint64_t count, uint64_t *seconds, uint32_t *nanos);
+
+/* The BeiDou count a duration later, or earlier where it is negative. Refuses with 1 where that is below 0 or
+   above 64 bits. */
+uint32_t plaitgate_beidou_checked_add(uint64_t count, int64_t duration, uint64_t *sum);
+
+/* The BeiDou count a duration earlier, or later where it is negative. Refuses with 1 where that is below 0 or
+   above 64 bits. */
+uint32_t plaitgate_beidou_checked_sub_duration(uint64_t count, int64_t duration, uint64_t *difference);
+
+/* As plaitgate_beidou_checked_add, but stops at 0 and at the largest count. Does not refuse. */
+uint32_t plaitgate_beidou_saturating_add(uint64_t count, int64_t duration, uint64_t *sum);
+
+/* As plaitgate_beidou_checked_sub_duration, but stops at 0 and at the largest count. Does not refuse. */
+uint32_t plaitgate_beidou_saturating_sub_duration(uint64_t count, int64_t duration, uint64_t *difference);
+
+/* The duration from `earlier` to `count`, both BeiDou, negative where `earlier` is the later. Refuses with 1 where
+   it does not fit 64 bits with sign. */
+uint32_t plaitgate_beidou_checked_elapsed(uint64_t count, uint64_t earlier, int64_t *duration);
+
+/* The BeiDou count of the epoch (0), the least (0) and the largest (18446744073709551615), and the nanoseconds
+   of a year of 365 days. Does not refuse. */
+uint32_t plaitgate_beidou_limits(uint64_t *epoch, uint64_t *min, uint64_t *max, uint64_t *nanos_per_year);
+
 /* end of every scale */
 
 /* scales with weeks, by tools/write-scales */
@@ -287,6 +326,21 @@ uint32_t plaitgate_galileo_tow_seconds(uint64_t count, uint32_t *seconds);
 
 /* The nanoseconds of a Galileo count since its second began, 0 to 999999999. Does not refuse. */
 uint32_t plaitgate_galileo_sub_second_nanos(uint64_t count, uint32_t *nanos);
+
+/* ---- weeks of BeiDou ---- */
+
+/* The BeiDou count of a week since the epoch and a time of week. Refuses with 2 where seconds reach 604800, else with
+   11 where nanos reach 1000000000, else with 1 where the count is above 64 bits, which begins in week 30500. */
+uint32_t plaitgate_beidou_from_week_tow(uint32_t week, uint64_t seconds, uint32_t nanos, uint64_t *count);
+
+/* The week since the epoch of a BeiDou count, 0 to 30500. Does not refuse. */
+uint32_t plaitgate_beidou_week(uint64_t count, uint32_t *week);
+
+/* The whole seconds of a BeiDou count since its week began, 0 to 604799. Does not refuse. */
+uint32_t plaitgate_beidou_tow_seconds(uint64_t count, uint32_t *seconds);
+
+/* The nanoseconds of a BeiDou count since its second began, 0 to 999999999. Does not refuse. */
+uint32_t plaitgate_beidou_sub_second_nanos(uint64_t count, uint32_t *nanos);
 
 /* end of scales with weeks */
 
@@ -616,6 +670,41 @@ uint32_t plaitgate_table_galileo_to_utc(uint64_t galileo, const uint8_t *image, 
 uint32_t plaitgate_table_utc_to_galileo(uint64_t utc, const uint8_t *image, size_t image_bytes, uint64_t *galileo);
 uint32_t plaitgate_table_galileo_to_glonass(uint64_t galileo, const uint8_t *image, size_t image_bytes, uint64_t *glonass);
 uint32_t plaitgate_table_glonass_to_galileo(uint64_t glonass, const uint8_t *image, size_t image_bytes, uint64_t *galileo);
+
+/* ---- BeiDou to GPS, UTC and GLONASS, and back ---- */
+
+/* The GPS count of a BeiDou count, which is behind it by a fixed number of seconds (above). Refuses with 1 where the
+   GPS count is above 64 bits. */
+uint32_t plaitgate_beidou_to_gps(uint64_t beidou, uint64_t *gps);
+
+/* The BeiDou count of a GPS count. Refuses with 1 before the epoch of BeiDou. */
+uint32_t plaitgate_gps_to_beidou(uint64_t gps, uint64_t *beidou);
+
+/* The UTC count of a BeiDou count by the built-in table, by way of GPS. Refuses with 1 where the GPS count is above 64
+   bits, then as plaitgate_builtin_gps_to_utc. */
+uint32_t plaitgate_builtin_beidou_to_utc(uint64_t beidou, uint64_t *utc);
+
+/* The BeiDou count of a UTC count by the built-in table, by way of GPS. A UTC count that two BeiDou counts have
+   becomes the earlier of them. Refuses as plaitgate_builtin_utc_to_gps, then with 1 where no GPS count that the UTC
+   count has lies at or after the epoch of BeiDou. */
+uint32_t plaitgate_builtin_utc_to_beidou(uint64_t utc, uint64_t *beidou);
+
+/* The GLONASS count of a BeiDou count by the built-in table, by way of UTC. Refuses as
+   plaitgate_builtin_beidou_to_utc, then as plaitgate_utc_to_glonass. */
+uint32_t plaitgate_builtin_beidou_to_glonass(uint64_t beidou, uint64_t *glonass);
+
+/* The BeiDou count of a GLONASS count by the built-in table, by way of UTC. Refuses as plaitgate_glonass_to_utc, then
+   as plaitgate_builtin_utc_to_beidou. */
+uint32_t plaitgate_builtin_glonass_to_beidou(uint64_t glonass, uint64_t *beidou);
+
+/* The same four by the table in an image. Each refuses with 8 first where the image holds no valid table. From UTC and
+   from GLONASS, a table that is not regular gives no more than the first GPS count of a UTC count, and refuses with 1
+   where that lies before the epoch of BeiDou. (A table is regular if it begins (0, 19) and each threshold after the
+   first is at least 86400 s above the one before.) */
+uint32_t plaitgate_table_beidou_to_utc(uint64_t beidou, const uint8_t *image, size_t image_bytes, uint64_t *utc);
+uint32_t plaitgate_table_utc_to_beidou(uint64_t utc, const uint8_t *image, size_t image_bytes, uint64_t *beidou);
+uint32_t plaitgate_table_beidou_to_glonass(uint64_t beidou, const uint8_t *image, size_t image_bytes, uint64_t *glonass);
+uint32_t plaitgate_table_glonass_to_beidou(uint64_t glonass, const uint8_t *image, size_t image_bytes, uint64_t *beidou);
 
 /* end of shifted scales */
 

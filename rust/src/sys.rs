@@ -162,6 +162,17 @@ of_numbers! { declared_of_numbers:
     galileo_saturating_sub_duration(count: u64, duration: i64) -> (difference: u64);
     galileo_checked_elapsed(count: u64, earlier: u64) -> (duration: i64);
     galileo_limits() -> (epoch: u64, min: u64, max: u64, nanos_per_year: u64);
+    beidou_from_nanos(nanos: u64) -> (count: u64);
+    beidou_as_nanos(count: u64) -> (nanos: u64);
+    beidou_checked_from_seconds(seconds: u64) -> (count: u64);
+    beidou_as_seconds(count: u64) -> (seconds: u64);
+    beidou_as_parts(count: u64) -> (seconds: u64, nanos: u32);
+    beidou_checked_add(count: u64, duration: i64) -> (sum: u64);
+    beidou_checked_sub_duration(count: u64, duration: i64) -> (difference: u64);
+    beidou_saturating_add(count: u64, duration: i64) -> (sum: u64);
+    beidou_saturating_sub_duration(count: u64, duration: i64) -> (difference: u64);
+    beidou_checked_elapsed(count: u64, earlier: u64) -> (duration: i64);
+    beidou_limits() -> (epoch: u64, min: u64, max: u64, nanos_per_year: u64);
     // end of every scale
 
     // scales with weeks, by tools/write-scales
@@ -173,6 +184,10 @@ of_numbers! { declared_of_numbers:
     galileo_week(count: u64) -> (week: u32);
     galileo_tow_seconds(count: u64) -> (seconds: u32);
     galileo_sub_second_nanos(count: u64) -> (nanos: u32);
+    beidou_from_week_tow(week: u32, seconds: u64, nanos: u32) -> (count: u64);
+    beidou_week(count: u64) -> (week: u32);
+    beidou_tow_seconds(count: u64) -> (seconds: u32);
+    beidou_sub_second_nanos(count: u64) -> (nanos: u32);
     // end of scales with weeks
 
     gps_to_tai(count: u64) -> (tai: u64);
@@ -255,6 +270,12 @@ of_numbers! { declared_of_shifted_scales:
     builtin_utc_to_galileo(utc: u64) -> (galileo: u64);
     builtin_galileo_to_glonass(galileo: u64) -> (glonass: u64);
     builtin_glonass_to_galileo(glonass: u64) -> (galileo: u64);
+    beidou_to_gps(beidou: u64) -> (gps: u64);
+    gps_to_beidou(gps: u64) -> (beidou: u64);
+    builtin_beidou_to_utc(beidou: u64) -> (utc: u64);
+    builtin_utc_to_beidou(utc: u64) -> (beidou: u64);
+    builtin_beidou_to_glonass(beidou: u64) -> (glonass: u64);
+    builtin_glonass_to_beidou(glonass: u64) -> (beidou: u64);
 }
 
 of_bytes! { declared_of_shifted_scales_by_images:
@@ -262,6 +283,10 @@ of_bytes! { declared_of_shifted_scales_by_images:
     table_utc_to_galileo(utc: u64)(image: &Image)() -> (galileo: u64);
     table_galileo_to_glonass(galileo: u64)(image: &Image)() -> (glonass: u64);
     table_glonass_to_galileo(glonass: u64)(image: &Image)() -> (galileo: u64);
+    table_beidou_to_utc(beidou: u64)(image: &Image)() -> (utc: u64);
+    table_utc_to_beidou(utc: u64)(image: &Image)() -> (beidou: u64);
+    table_beidou_to_glonass(beidou: u64)(image: &Image)() -> (glonass: u64);
+    table_glonass_to_beidou(glonass: u64)(image: &Image)() -> (beidou: u64);
 }
 // end of shifted scales
 

@@ -1,6 +1,7 @@
 -- Each call of this crate leaves one answer for each input.
 -- shifted scales, by tools/write-scales
 pub mod Galileo
+pub mod Beidou
 -- end of shifted scales
 
 use mathlib.Core.Path.{sym, _∙_}

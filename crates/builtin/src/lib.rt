@@ -4,6 +4,7 @@ pub mod epochs;
 pub mod events;
 pub mod inner;
 // shifted scales, by tools/write-scales
+pub mod beidou;
 pub mod galileo;
 // end of shifted scales
 

@@ -3,6 +3,7 @@
 // Every call refuses an invalid table with 8 before anything else.
 pub mod inner;
 // shifted scales, by tools/write-scales
+pub mod beidou;
 pub mod galileo;
 // end of shifted scales
 

@@ -8,7 +8,7 @@ use denote.Ref.{now}
 use Rattle.refusals.specs.Outcome.{then}
 use Rattle.refusals.proofs.Given.{told-is}
 use Rattle.counts.specs.Answers.{countIn}
-use Rattle.scales.specs.Scales.{taiMinusGps, gpsMinusGalileo}
+use Rattle.scales.specs.Scales.{taiMinusGps, gpsMinusGalileo, gpsMinusBeidou}
 use Rattle.tables.specs.Slots.{entriesOf, ofValid}
 use Rattle.tables.specs.declared.LeapTable.{LeapTable}
 use Rattle.images.specs.Image.{tableIn, byImage}
@@ -57,4 +57,29 @@ demand-3-shifted = record {
       (λ u. allowed _ (λ κ a k e q p.
       told-is 0 _ (utc-to-shifted-numbered gpsMinusGalileo builtin (a .0)) p
       ∙ ap (utcToShifted gpsMinusGalileo builtin) q));
+  beidou-by-value = λ t r.
+      of-table t r (taiMinusGps + gpsMinusBeidou) (shifted-instants (entriesOf t) (r .1) gpsMinusBeidou)
+      (λ n. allowed _ (λ κ a x e q p.
+      p ∙ (λ i. ofValid (q .1 i) (shiftedToUtc gpsMinusBeidou (entriesOf (q .1 i)) (q .0 i)))))
+      (λ u. allowed _ (λ κ a x e q p.
+      p ∙ (λ i. ofValid (q .1 i) (utcToShifted gpsMinusBeidou (entriesOf (q .1 i)) (q .0 i)))));
+  beidou-built-in =
+      of-pair builtin (taiMinusGps + gpsMinusBeidou) (shifted-instants builtin builtin-regular gpsMinusBeidou)
+      (λ n. allowed _ (λ κ a x e q p. p ∙ ap (shiftedToUtc gpsMinusBeidou builtin) q))
+      (λ u. allowed _ (λ κ a x e q p. p ∙ ap (utcToShifted gpsMinusBeidou builtin) q));
+  beidou-exported = λ b size r.
+      of-table (tableIn b) r (taiMinusGps + gpsMinusBeidou)
+      (shifted-instants (entriesOf (tableIn b)) (r .1) gpsMinusBeidou)
+      (λ n. allowed _ (λ κ a k e q p.
+      as-told (shiftedToUtc gpsMinusBeidou) size (shifted-to-utc-numbered gpsMinusBeidou) q p))
+      (λ u. allowed _ (λ κ a k e q p.
+      as-told (utcToShifted gpsMinusBeidou) size (utc-to-shifted-numbered gpsMinusBeidou) q p));
+  beidou-exported-built-in =
+      of-pair builtin (taiMinusGps + gpsMinusBeidou) (shifted-instants builtin builtin-regular gpsMinusBeidou)
+      (λ n. allowed _ (λ κ a k e q p.
+      told-is 0 _ (shifted-to-utc-numbered gpsMinusBeidou builtin (a .0)) p
+      ∙ ap (shiftedToUtc gpsMinusBeidou builtin) q))
+      (λ u. allowed _ (λ κ a k e q p.
+      told-is 0 _ (utc-to-shifted-numbered gpsMinusBeidou builtin (a .0)) p
+      ∙ ap (utcToShifted gpsMinusBeidou builtin) q));
 }

@@ -9,8 +9,8 @@ use lib.ListN.{length}
 use Rattle.refusals.specs.Outcome.{unless}
 use Rattle.counts.specs.Answers.{countIn}
 use Rattle.counts.specs.declared.CountAnswer.the-variants as count
-use Rattle.scales.specs.Answers.{utcIn, galileoIn}
-use Rattle.scales.specs.Scales.{taiMinusGps, gpsMinusGalileo}
+use Rattle.scales.specs.Answers.{utcIn, galileoIn, beidouIn}
+use Rattle.scales.specs.Scales.{taiMinusGps, gpsMinusGalileo, gpsMinusBeidou}
 use Rattle.tables.specs.Slots.{entriesOf}
 use Rattle.tables.specs.declared.LeapTable.{LeapTable}
 use Rattle.images.specs.Image.{imageBytes, tableIn}
@@ -25,6 +25,14 @@ use Rattle.plaitgate.proofs.galileo_conversions.plaitgate_table_galileo_to_utc.
 use Rattle.plaitgate.proofs.galileo_conversions.plaitgate_table_utc_to_galileo.Reads as host-utc-to-galileo
 use Rattle.plaitgate.proofs.galileo_conversions.plaitgate_builtin_galileo_to_utc.Reads as host-builtin-galileo-to-utc
 use Rattle.plaitgate.proofs.galileo_conversions.plaitgate_builtin_utc_to_galileo.Reads as host-builtin-utc-to-galileo
+use Rattle.conversions.proofs.beidou.beidou_to_utc.Reads as beidou-to-utc
+use Rattle.conversions.proofs.beidou.utc_to_beidou.Reads as utc-to-beidou
+use Rattle.builtin.proofs.beidou.beidou_to_utc.Reads as builtin-beidou-to-utc
+use Rattle.builtin.proofs.beidou.utc_to_beidou.Reads as builtin-utc-to-beidou
+use Rattle.plaitgate.proofs.beidou_conversions.plaitgate_table_beidou_to_utc.Reads as host-beidou-to-utc
+use Rattle.plaitgate.proofs.beidou_conversions.plaitgate_table_utc_to_beidou.Reads as host-utc-to-beidou
+use Rattle.plaitgate.proofs.beidou_conversions.plaitgate_builtin_beidou_to_utc.Reads as host-builtin-beidou-to-utc
+use Rattle.plaitgate.proofs.beidou_conversions.plaitgate_builtin_utc_to_beidou.Reads as host-builtin-utc-to-beidou
 use Rattle.demands.specs.OfCalls.{Allows, TwoInstantsOf, Regular}
 
 pub record Demand3Shifted : Type 0 where
@@ -52,3 +60,20 @@ pub record Demand3Shifted : Type 0 where
   pub galileo-exported-built-in : TwoInstantsOf builtin (taiMinusGps + gpsMinusGalileo)
       (λ n. Allows host-builtin-galileo-to-utc.Post (λ κ a. a .0 ≡ n) (λ κ k e. unless k (now (e .1 .0))))
       (λ u. Allows host-builtin-utc-to-galileo.Post (λ κ a. a .0 ≡ u) (λ κ k e. unless k (now (e .1 .0))))
+  -- BeiDou, by a table
+  pub beidou-by-value : (t : LeapTable) → Regular t → TwoInstantsOf (entriesOf t) (taiMinusGps + gpsMinusBeidou)
+      (λ n. Allows beidou-to-utc.Post (λ κ a. (a .0 .0 ≡ n) × (a .1 .0 ≡ t)) (λ κ r e. utcIn r))
+      (λ u. Allows utc-to-beidou.Post (λ κ a. (a .0 .0 ≡ u) × (a .1 .0 ≡ t)) (λ κ r e. beidouIn r))
+  pub beidou-built-in : TwoInstantsOf builtin (taiMinusGps + gpsMinusBeidou)
+      (λ n. Allows builtin-beidou-to-utc.Post (λ κ a. a .0 .0 ≡ n) (λ κ r e. utcIn r))
+      (λ u. Allows builtin-utc-to-beidou.Post (λ κ a. a .0 .0 ≡ u) (λ κ r e. beidouIn r))
+  -- and for hosts
+  pub beidou-exported : (b : List ℕ) → length b ≡ imageBytes → Regular (tableIn b)
+      → TwoInstantsOf (entriesOf (tableIn b)) (taiMinusGps + gpsMinusBeidou)
+      (λ n. Allows host-beidou-to-utc.Post (λ κ a. (a .0 ≡ n) × (now (a .1 .0) ≡ b))
+      (λ κ k e. unless k (now (e .1 .1 .0))))
+      (λ u. Allows host-utc-to-beidou.Post (λ κ a. (a .0 ≡ u) × (now (a .1 .0) ≡ b))
+      (λ κ k e. unless k (now (e .1 .1 .0))))
+  pub beidou-exported-built-in : TwoInstantsOf builtin (taiMinusGps + gpsMinusBeidou)
+      (λ n. Allows host-builtin-beidou-to-utc.Post (λ κ a. a .0 ≡ n) (λ κ k e. unless k (now (e .1 .0))))
+      (λ u. Allows host-builtin-utc-to-beidou.Post (λ κ a. a .0 ≡ u) (λ κ k e. unless k (now (e .1 .0))))

@@ -29,6 +29,7 @@ use tables::Taken;
 use tables::UpdateAnswer;
 
 // every scale, by tools/write-scales
+pub use scale_counts::beidou_count;
 pub use scale_counts::galileo_count;
 pub use scale_counts::glonass_count;
 pub use scale_counts::gps_count;

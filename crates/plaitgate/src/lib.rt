@@ -3,6 +3,7 @@
 // include/plaitgate.h declares them.
 
 // every scale, by tools/write-scales
+pub mod beidou;
 pub mod galileo;
 pub mod glonass;
 pub mod gps;
@@ -10,10 +11,12 @@ pub mod tai;
 pub mod utc;
 // end of every scale
 // scales with weeks, by tools/write-scales
+pub mod beidou_weeks;
 pub mod galileo_weeks;
 pub mod gps_weeks;
 // end of scales with weeks
 // shifted scales, by tools/write-scales
+pub mod beidou_conversions;
 pub mod galileo_conversions;
 // end of shifted scales
 pub mod by_builtin;

@@ -2,6 +2,7 @@
 // them.
 
 // every scale, by tools/write-scales
+mod beidou;
 mod galileo;
 mod glonass;
 mod gps;
@@ -9,10 +10,12 @@ mod tai;
 mod utc;
 // end of every scale
 // scales with weeks, by tools/write-scales
+mod beidou_weeks;
 mod galileo_weeks;
 mod gps_weeks;
 // end of scales with weeks
 // shifted scales, by tools/write-scales
+mod beidou_conversions;
 mod galileo_conversions;
 // end of shifted scales
 mod by_builtin;

@@ -1,6 +1,7 @@
 // What the calls by value answer to a question of the recorded list: the port itself, with no C boundary.
 
 // every scale, by tools/write-scales
+mod beidou;
 mod galileo;
 mod glonass;
 mod gps;
@@ -8,10 +9,12 @@ mod tai;
 mod utc;
 // end of every scale
 // scales with weeks, by tools/write-scales
+mod beidou_weeks;
 mod galileo_weeks;
 mod gps_weeks;
 // end of scales with weeks
 // shifted scales, by tools/write-scales
+mod beidou_conversions;
 mod galileo_conversions;
 // end of shifted scales
 mod by_builtin;

@@ -4,7 +4,7 @@ use mathlib.Core.Path.{_≡_, ap}
 use Prim.Native.Nat.{ℕ}
 use Rattle.refusals.specs.Number.{numberOf}
 use Rattle.refusals.proofs.Tells.{number-tells}
-use Rattle.scales.specs.Answers.{gpsIn, utcIn, glonassIn, taiIn, galileoIn}
+use Rattle.scales.specs.Answers.{gpsIn, utcIn, glonassIn, taiIn, galileoIn, beidouIn}
 use Rattle.scales.specs.declared.gps.Gps.{Gps}
 use Rattle.scales.specs.declared.gps.GpsAnswer.{GpsAnswer}
 use Rattle.scales.specs.declared.gps.GpsAnswer.the-variants as gps
@@ -20,6 +20,9 @@ use Rattle.scales.specs.declared.tai.TaiAnswer.the-variants as tai
 use Rattle.scales.specs.declared.galileo.Galileo.{Galileo}
 use Rattle.scales.specs.declared.galileo.GalileoAnswer.{GalileoAnswer}
 use Rattle.scales.specs.declared.galileo.GalileoAnswer.the-variants as galileo
+use Rattle.scales.specs.declared.beidou.Beidou.{Beidou}
+use Rattle.scales.specs.declared.beidou.BeidouAnswer.{BeidouAnswer}
+use Rattle.scales.specs.declared.beidou.BeidouAnswer.the-variants as beidou
 
 pub gps-count-tells : (x y : Gps) → x .0 ≡ y .0 → x ≡ y
 gps-count-tells x y e = ap (λ (n : ℕ). record { 0 = n }) e
@@ -65,3 +68,12 @@ galileo-tells (galileo.Count s) (galileo.Count t) e = ap galileo.Count (galileo-
 galileo-tells (galileo.Count s) (galileo.Refused r) e = cc
 galileo-tells (galileo.Refused r) (galileo.Count t) e = cc
 galileo-tells (galileo.Refused q) (galileo.Refused r) e = ap galileo.Refused (number-tells q r (cc))
+
+pub beidou-count-tells : (x y : Beidou) → x .0 ≡ y .0 → x ≡ y
+beidou-count-tells x y e = ap (λ (n : ℕ). record { 0 = n }) e
+
+pub beidou-tells : (x y : BeidouAnswer) → beidouIn x ≡ beidouIn y → x ≡ y
+beidou-tells (beidou.Count s) (beidou.Count t) e = ap beidou.Count (beidou-count-tells s t (cc))
+beidou-tells (beidou.Count s) (beidou.Refused r) e = cc
+beidou-tells (beidou.Refused r) (beidou.Count t) e = cc
+beidou-tells (beidou.Refused q) (beidou.Refused r) e = ap beidou.Refused (number-tells q r (cc))

@@ -13,6 +13,8 @@ use Rattle.scales.specs.declared.tai.TaiAnswer.{TaiAnswer}
 use Rattle.scales.specs.declared.tai.TaiAnswer.the-variants as tai
 use Rattle.scales.specs.declared.galileo.GalileoAnswer.{GalileoAnswer}
 use Rattle.scales.specs.declared.galileo.GalileoAnswer.the-variants as galileo
+use Rattle.scales.specs.declared.beidou.BeidouAnswer.{BeidouAnswer}
+use Rattle.scales.specs.declared.beidou.BeidouAnswer.the-variants as beidou
 
 abbrev pub gpsIn : GpsAnswer → Outcome ℕ
 gpsIn (gps.Count t) = answered (t .0)
@@ -33,3 +35,7 @@ taiIn (tai.Refused r) = refused (numberOf r)
 abbrev pub galileoIn : GalileoAnswer → Outcome ℕ
 galileoIn (galileo.Count t) = answered (t .0)
 galileoIn (galileo.Refused r) = refused (numberOf r)
+
+abbrev pub beidouIn : BeidouAnswer → Outcome ℕ
+beidouIn (beidou.Count t) = answered (t .0)
+beidouIn (beidou.Refused r) = refused (numberOf r)

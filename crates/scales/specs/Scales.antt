@@ -10,6 +10,10 @@ taiMinusGps = 19 * second
 abbrev pub gpsMinusGalileo : ℕ
 gpsMinusGalileo = 619_315_200 * second
 
+-- a BeiDou count and 820,108,814 s is the GPS count
+abbrev pub gpsMinusBeidou : ℕ
+gpsMinusBeidou = 820_108_814 * second
+
 -- the weekday of a GLONASS count: 1 for Monday, and day 0 is one
 abbrev pub weekdayOf : ℕ → ℕ
 weekdayOf n = n / (daySeconds * second) % 7 + 1

@@ -2,6 +2,7 @@
 // One tuple struct for each, so that a count of one scale is never taken where another is due.
 pub mod duration;
 // every scale, by tools/write-scales
+pub mod beidou;
 pub mod galileo;
 pub mod glonass;
 pub mod gps;
@@ -9,10 +10,12 @@ pub mod tai;
 pub mod utc;
 // end of every scale
 // scales with weeks, by tools/write-scales
+pub mod beidou_weeks;
 pub mod galileo_weeks;
 pub mod gps_weeks;
 // end of scales with weeks
 // shifted scales, by tools/write-scales
+pub mod beidou_gps;
 pub mod galileo_gps;
 // end of shifted scales
 pub mod glonass_days;

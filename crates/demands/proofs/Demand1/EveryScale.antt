@@ -11,6 +11,7 @@ use Rattle.plaitgate.proofs.utc
 use Rattle.plaitgate.proofs.glonass
 use Rattle.plaitgate.proofs.tai
 use Rattle.plaitgate.proofs.galileo
+use Rattle.plaitgate.proofs.beidou
 use Rattle.demands.specs.RefusalsLeave.{ZerosOnRefusal}
 
 pub gps-checked-from-seconds : ZerosOnRefusal gps.plaitgate_gps_checked_from_seconds.Reads.Post
@@ -87,3 +88,18 @@ galileo-checked-sub-duration κ a k e = zeros-on-refusal (countOf (pos (a .0) -�
 pub galileo-checked-elapsed : ZerosOnRefusal galileo.plaitgate_galileo_checked_elapsed.Reads.Post
     (pos 0) (λ κ e. now (e .1 .1 .0))
 galileo-checked-elapsed κ a k e = zeros-on-refusal (durationOf (pos (a .0) -ℤ pos (a .1 .0)))
+
+pub beidou-checked-from-seconds : ZerosOnRefusal beidou.plaitgate_beidou_checked_from_seconds.Reads.Post
+    0 (λ κ e. now (e .1 .0))
+beidou-checked-from-seconds κ a k e = zeros-on-refusal (countOf (pos (a .0 * second)))
+
+pub beidou-checked-add : ZerosOnRefusal beidou.plaitgate_beidou_checked_add.Reads.Post 0 (λ κ e. now (e .1 .1 .0))
+beidou-checked-add κ a k e = zeros-on-refusal (countOf (pos (a .0) +ℤ a .1 .0))
+
+pub beidou-checked-sub-duration : ZerosOnRefusal beidou.plaitgate_beidou_checked_sub_duration.Reads.Post
+    0 (λ κ e. now (e .1 .1 .0))
+beidou-checked-sub-duration κ a k e = zeros-on-refusal (countOf (pos (a .0) -ℤ a .1 .0))
+
+pub beidou-checked-elapsed : ZerosOnRefusal beidou.plaitgate_beidou_checked_elapsed.Reads.Post
+    (pos 0) (λ κ e. now (e .1 .1 .0))
+beidou-checked-elapsed κ a k e = zeros-on-refusal (durationOf (pos (a .0) -ℤ pos (a .1 .0)))

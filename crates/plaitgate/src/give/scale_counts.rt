@@ -2,7 +2,8 @@
 // The answers of each scale.
 ghost use mathlib.Core.Path.{_≡_};
 ghost use Rattle.refusals.specs.Outcome.{Gives};
-ghost use Rattle.scales.specs.Answers.{gpsIn, utcIn, glonassIn, taiIn, galileoIn};
+ghost use Rattle.scales.specs.Answers.{gpsIn, utcIn, glonassIn, taiIn, galileoIn, beidouIn};
+use scales::beidou::BeidouAnswer;
 use scales::galileo::GalileoAnswer;
 use scales::glonass::GlonassAnswer;
 use scales::gps::GpsAnswer;
@@ -78,6 +79,21 @@ pub fn galileo_count(answer: GalileoAnswer, out: &mut u64) -> u32
             0
         }
         GalileoAnswer::Refused(r) => {
+            *out = 0;
+            r.number()
+        }
+    }
+}
+
+pub fn beidou_count(answer: BeidouAnswer, out: &mut u64) -> u32
+    ensures { λ r. ⌜ Gives 0 (beidouIn answer) r (now (out .exit)) ⌝ }
+{
+    match answer {
+        BeidouAnswer::Count(t) => {
+            *out = t.0;
+            0
+        }
+        BeidouAnswer::Refused(r) => {
             *out = 0;
             r.number()
         }

@@ -20,6 +20,7 @@ use tables::Taken;
 use tables::UpdateAnswer;
 
 // every scale, by tools/write-scales
+pub use scale_counts::beidou;
 pub use scale_counts::galileo;
 pub use scale_counts::glonass;
 pub use scale_counts::gps;

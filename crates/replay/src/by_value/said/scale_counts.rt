@@ -1,6 +1,7 @@
 // Written by tools/write-scales from its template in tools/templates.
 // The answers of each scale.
 use crate::reply::Reply;
+use scales::beidou::BeidouAnswer;
 use scales::galileo::GalileoAnswer;
 use scales::glonass::GlonassAnswer;
 use scales::gps::GpsAnswer;
@@ -39,5 +40,12 @@ pub fn galileo(answer: GalileoAnswer) -> Reply {
     match answer {
         GalileoAnswer::Count(t) => Reply::one(0, t.0),
         GalileoAnswer::Refused(why) => Reply::refused(why),
+    }
+}
+
+pub fn beidou(answer: BeidouAnswer) -> Reply {
+    match answer {
+        BeidouAnswer::Count(t) => Reply::one(0, t.0),
+        BeidouAnswer::Refused(why) => Reply::refused(why),
     }
 }

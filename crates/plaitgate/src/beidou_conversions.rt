@@ -1,0 +1,120 @@
+// Written by tools/write-scales from its template in tools/templates.
+// BeiDou to GPS, UTC and GLONASS, and back, by the built-in table and by one that the host holds as an image.
+ghost use Rattle.refusals.specs.Outcome.{Gives};
+ghost use Rattle.counts.specs.Exact.{up, down};
+ghost use Rattle.scales.specs.Scales.{gpsMinusBeidou};
+ghost use Rattle.conversions.specs.Shifted.{shiftedToUtc, utcToShifted, shiftedToGlonass, glonassToShifted};
+ghost use Rattle.builtin.specs.Builtin.{builtin};
+ghost use Rattle.images.specs.Image.{byImage};
+use crate::give;
+use builtin::inner::shifted;
+use conversions::inner::steps;
+use counts::CountAnswer;
+use images::table;
+use scales::beidou::Beidou;
+use scales::gps::Gps;
+
+#[no_mangle]
+pub extern "C" fn plaitgate_beidou_to_gps(beidou: u64, gps: &mut u64) -> u32
+    ensures { λ r. ⌜ Gives 0 (up gpsMinusBeidou beidou) r (now (gps .exit)) ⌝ }
+{
+    give::gps_count(Beidou(beidou).to_gps(), gps)
+}
+
+#[no_mangle]
+pub extern "C" fn plaitgate_gps_to_beidou(gps: u64, beidou: &mut u64) -> u32
+    ensures { λ r. ⌜ Gives 0 (down gpsMinusBeidou gps) r (now (beidou .exit)) ⌝ }
+{
+    give::beidou_count(Beidou::from_gps(Gps(gps)), beidou)
+}
+
+#[no_mangle]
+pub extern "C" fn plaitgate_builtin_beidou_to_utc(beidou: u64, utc: &mut u64) -> u32
+    ensures { λ r. ⌜ Gives 0 (shiftedToUtc gpsMinusBeidou builtin beidou) r (now (utc .exit)) ⌝ }
+{
+    let count = CountAnswer::Count(beidou);
+    give::count(shifted::utc_from_shifted(count, Beidou::BEHIND_GPS_NS), utc)
+}
+
+#[no_mangle]
+pub extern "C" fn plaitgate_builtin_utc_to_beidou(utc: u64, beidou: &mut u64) -> u32
+    ensures { λ r. ⌜ Gives 0 (utcToShifted gpsMinusBeidou builtin utc) r (now (beidou .exit)) ⌝ }
+{
+    let count = CountAnswer::Count(utc);
+    give::count(
+        shifted::shifted_from_utc(count, Beidou::BEHIND_GPS_NS),
+        beidou,
+    )
+}
+
+#[no_mangle]
+pub extern "C" fn plaitgate_builtin_beidou_to_glonass(beidou: u64, glonass: &mut u64) -> u32
+    ensures { λ r. ⌜ Gives 0 (shiftedToGlonass gpsMinusBeidou builtin beidou) r (now (glonass .exit)) ⌝ }
+{
+    let utc = shifted::utc_from_shifted(CountAnswer::Count(beidou), Beidou::BEHIND_GPS_NS);
+    give::count(steps::glonass_from_utc(utc), glonass)
+}
+
+#[no_mangle]
+pub extern "C" fn plaitgate_builtin_glonass_to_beidou(glonass: u64, beidou: &mut u64) -> u32
+    ensures { λ r. ⌜ Gives 0 (glonassToShifted gpsMinusBeidou builtin glonass) r (now (beidou .exit)) ⌝ }
+{
+    let utc = steps::utc_from_glonass(CountAnswer::Count(glonass));
+    give::count(
+        shifted::shifted_from_utc(utc, Beidou::BEHIND_GPS_NS),
+        beidou,
+    )
+}
+
+#[no_mangle]
+pub extern "C" fn plaitgate_table_beidou_to_utc(beidou: u64, image: &[u8], utc: &mut u64) -> u32
+    ensures { λ r. ⌜ Gives 0 (byImage (now (image .entry)) (λ es. shiftedToUtc gpsMinusBeidou es beidou)) r
+        (now (utc .exit)) ⌝ }
+{
+    let count = CountAnswer::Count(beidou);
+    give::count(
+        table::utc_from_shifted(count, image, Beidou::BEHIND_GPS_NS),
+        utc,
+    )
+}
+
+#[no_mangle]
+pub extern "C" fn plaitgate_table_utc_to_beidou(utc: u64, image: &[u8], beidou: &mut u64) -> u32
+    ensures { λ r. ⌜ Gives 0 (byImage (now (image .entry)) (λ es. utcToShifted gpsMinusBeidou es utc)) r
+        (now (beidou .exit)) ⌝ }
+{
+    let count = CountAnswer::Count(utc);
+    give::count(
+        table::shifted_from_utc(count, image, Beidou::BEHIND_GPS_NS),
+        beidou,
+    )
+}
+
+#[no_mangle]
+pub extern "C" fn plaitgate_table_beidou_to_glonass(
+    beidou: u64,
+    image: &[u8],
+    glonass: &mut u64,
+) -> u32
+    ensures { λ r. ⌜ Gives 0 (byImage (now (image .entry)) (λ es. shiftedToGlonass gpsMinusBeidou es beidou)) r
+        (now (glonass .exit)) ⌝ }
+{
+    let utc = table::utc_from_shifted(CountAnswer::Count(beidou), image, Beidou::BEHIND_GPS_NS);
+    give::count(steps::glonass_from_utc(utc), glonass)
+}
+
+#[no_mangle]
+pub extern "C" fn plaitgate_table_glonass_to_beidou(
+    glonass: u64,
+    image: &[u8],
+    beidou: &mut u64,
+) -> u32
+    ensures { λ r. ⌜ Gives 0 (byImage (now (image .entry)) (λ es. glonassToShifted gpsMinusBeidou es glonass)) r
+        (now (beidou .exit)) ⌝ }
+{
+    let utc = steps::utc_from_glonass(CountAnswer::Count(glonass));
+    give::count(
+        table::shifted_from_utc(utc, image, Beidou::BEHIND_GPS_NS),
+        beidou,
+    )
+}

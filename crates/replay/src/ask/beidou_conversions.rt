@@ -1,0 +1,43 @@
+// Written by tools/write-scales from its template in tools/templates.
+// Questions about BeiDou and GPS, UTC and GLONASS.
+use crate::numbered;
+use crate::reply::Question;
+use crate::reply::Reply;
+use plaitgate::beidou_conversions::plaitgate_beidou_to_gps;
+use plaitgate::beidou_conversions::plaitgate_builtin_beidou_to_glonass;
+use plaitgate::beidou_conversions::plaitgate_builtin_beidou_to_utc;
+use plaitgate::beidou_conversions::plaitgate_builtin_glonass_to_beidou;
+use plaitgate::beidou_conversions::plaitgate_builtin_utc_to_beidou;
+use plaitgate::beidou_conversions::plaitgate_gps_to_beidou;
+use plaitgate::beidou_conversions::plaitgate_table_beidou_to_glonass;
+use plaitgate::beidou_conversions::plaitgate_table_beidou_to_utc;
+use plaitgate::beidou_conversions::plaitgate_table_glonass_to_beidou;
+use plaitgate::beidou_conversions::plaitgate_table_utc_to_beidou;
+
+// To GPS and back, and by the built-in table.
+pub fn by_builtin(call: u64, q: Question) -> Reply {
+    let mut a: u64 = 1;
+    let number = match call {
+        1 => plaitgate_beidou_to_gps(q.x, &mut a),
+        2 => plaitgate_gps_to_beidou(q.x, &mut a),
+        3 => plaitgate_builtin_beidou_to_utc(q.x, &mut a),
+        4 => plaitgate_builtin_utc_to_beidou(q.x, &mut a),
+        5 => plaitgate_builtin_beidou_to_glonass(q.x, &mut a),
+        _ => plaitgate_builtin_glonass_to_beidou(q.x, &mut a),
+    };
+    Reply::one(number, a)
+}
+
+// By a table, whose number is the first input.
+pub fn by_table(call: u64, q: Question) -> Reply {
+    let mut image = [0u8; 776];
+    numbered::put(q.x, &mut image);
+    let mut a: u64 = 1;
+    let number = match call {
+        1 => plaitgate_table_beidou_to_utc(q.y, &image, &mut a),
+        2 => plaitgate_table_utc_to_beidou(q.y, &image, &mut a),
+        3 => plaitgate_table_beidou_to_glonass(q.y, &image, &mut a),
+        _ => plaitgate_table_glonass_to_beidou(q.y, &image, &mut a),
+    };
+    Reply::one(number, a)
+}

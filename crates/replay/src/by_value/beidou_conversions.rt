@@ -1,0 +1,33 @@
+// Written by tools/write-scales from its template in tools/templates.
+// Questions about BeiDou and GPS, UTC and GLONASS, by value.
+use crate::by_value::said;
+use crate::numbered;
+use crate::reply::Question;
+use crate::reply::Reply;
+use scales::beidou::Beidou;
+use scales::glonass::Glonass;
+use scales::gps::Gps;
+use scales::utc::Utc;
+
+// To GPS and back, and by the built-in table.
+pub fn by_builtin(call: u64, q: Question) -> Reply {
+    match call {
+        1 => said::gps(Beidou(q.x).to_gps()),
+        2 => said::beidou(Beidou::from_gps(Gps(q.x))),
+        3 => said::utc(builtin::beidou::beidou_to_utc(Beidou(q.x))),
+        4 => said::beidou(builtin::beidou::utc_to_beidou(Utc(q.x))),
+        5 => said::glonass(builtin::beidou::beidou_to_glonass(Beidou(q.x))),
+        _ => said::beidou(builtin::beidou::glonass_to_beidou(Glonass(q.x))),
+    }
+}
+
+// By a table, whose number is the first input.
+pub fn by_table(call: u64, q: Question) -> Reply {
+    let table = numbered::table(q.x);
+    match call {
+        1 => said::utc(conversions::beidou::beidou_to_utc(Beidou(q.y), table)),
+        2 => said::beidou(conversions::beidou::utc_to_beidou(Utc(q.y), table)),
+        3 => said::glonass(conversions::beidou::beidou_to_glonass(Beidou(q.y), table)),
+        _ => said::beidou(conversions::beidou::glonass_to_beidou(Glonass(q.y), table)),
+    }
+}
