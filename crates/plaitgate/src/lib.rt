@@ -24,6 +24,7 @@ pub mod by_table;
 pub mod civil_dates;
 pub mod civil_times;
 pub mod durations;
+pub mod galileo_beidou;
 mod give;
 pub mod glonass_days;
 pub mod gps_tai;

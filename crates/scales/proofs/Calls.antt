@@ -17,6 +17,7 @@ pub mod GalileoGps
 pub mod BeidouGps
 -- end of shifted scales
 pub mod GpsTai
+pub mod GalileoBeidou
 pub mod GlonassDays
 pub mod UtcUnix
 pub mod Durations

@@ -1,4 +1,4 @@
-// The time scales of time.rs: GPS, UTC, GLONASS and TAI, each a count of nanoseconds since its epoch.
+// The time scales of time.rs: GPS, UTC, GLONASS, TAI, Galileo and BeiDou, each a count of nanoseconds since its epoch.
 // One tuple struct for each, so that a count of one scale is never taken where another is due.
 pub mod duration;
 // every scale, by tools/write-scales
@@ -18,6 +18,7 @@ pub mod gps_weeks;
 pub mod beidou_gps;
 pub mod galileo_gps;
 // end of shifted scales
+pub mod galileo_beidou;
 pub mod glonass_days;
 pub mod gps_tai;
 pub mod utc_unix;

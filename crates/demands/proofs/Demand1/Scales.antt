@@ -1,14 +1,16 @@
--- What one scale alone has, and durations: each call gives the number and the value of an outcome, so a refusal writes
+-- What one scale alone has, Galileo and BeiDou, and durations: each call gives the number and the value of an outcome, so a refusal writes
 -- zeros.
 use Prim.Native.Nat.{ℕ, _+_, _*_}
 use lib.IntN.{pos, _-ℤ_, _*ℤ_}
 use denote.Ref.{now}
+use Rattle.refusals.specs.Outcome.{then}
 use Rattle.refusals.proofs.Given.{zeros-on-refusal}
-use Rattle.counts.specs.Exact.{countOf}
+use Rattle.counts.specs.Exact.{countOf, up, down}
 use Rattle.counts.specs.Units.{second, daySeconds, unixOffset, ofUnits, partsFrom}
 use Rattle.counts.specs.declared.units.DurationParts.{DurationParts}
-use Rattle.scales.specs.Scales.{taiMinusGps}
+use Rattle.scales.specs.Scales.{taiMinusGps, gpsMinusGalileo, gpsMinusBeidou}
 use Rattle.plaitgate.proofs.durations
+use Rattle.plaitgate.proofs.galileo_beidou
 use Rattle.plaitgate.proofs.glonass_days
 use Rattle.plaitgate.proofs.gps_tai
 use Rattle.plaitgate.proofs.utc_unix
@@ -22,6 +24,12 @@ gps-to-tai κ a k e = zeros-on-refusal (countOf (pos (a .0 + taiMinusGps)))
 
 pub gps-from-tai : ZerosOnRefusal gps_tai.plaitgate_gps_from_tai.Reads.Post 0 (λ κ e. now (e .1 .0))
 gps-from-tai κ a k e = zeros-on-refusal (countOf (pos (a .0) -ℤ pos taiMinusGps))
+
+pub galileo-to-beidou : ZerosOnRefusal galileo_beidou.plaitgate_galileo_to_beidou.Reads.Post 0 (λ κ e. now (e .1 .0))
+galileo-to-beidou κ a k e = zeros-on-refusal (then (up gpsMinusGalileo (a .0)) (down gpsMinusBeidou))
+
+pub beidou-to-galileo : ZerosOnRefusal galileo_beidou.plaitgate_beidou_to_galileo.Reads.Post 0 (λ κ e. now (e .1 .0))
+beidou-to-galileo κ a k e = zeros-on-refusal (then (up gpsMinusBeidou (a .0)) (down gpsMinusGalileo))
 
 pub glonass-from-day-tod : ZerosOnRefusal glonass_days.plaitgate_glonass_from_day_tod.Reads.Post 0
     (λ κ e. now (e .1 .1 .1 .0))
