@@ -5,6 +5,7 @@ ghost use Rattle.scales.specs.Answers.{utcIn, glonassIn, beidouIn};
 ghost use Rattle.scales.specs.Scales.{gpsMinusBeidou};
 ghost use Rattle.conversions.specs.Shifted.{shiftedToUtc, utcToShifted, shiftedToGlonass, glonassToShifted};
 ghost use Rattle.builtin.specs.Builtin.{builtin};
+use crate::inner::shifted::shifted_from_glonass;
 use crate::inner::shifted::shifted_from_utc;
 use crate::inner::shifted::utc_from_shifted;
 use conversions::inner::steps;
@@ -39,6 +40,5 @@ pub fn beidou_to_glonass(beidou: Beidou) -> GlonassAnswer
 pub fn glonass_to_beidou(glonass: Glonass) -> BeidouAnswer
     ensures { λ r. ⌜ beidouIn r ≡ glonassToShifted gpsMinusBeidou builtin (glonass .0) ⌝ }
 {
-    let utc = steps::utc_from_glonass(CountAnswer::Count(glonass.0));
-    BeidouAnswer::of(shifted_from_utc(utc, Beidou::BEHIND_GPS_NS))
+    BeidouAnswer::of(shifted_from_glonass(CountAnswer::Count(glonass.0), Beidou::BEHIND_GPS_NS))
 }

@@ -5,6 +5,7 @@ ghost use Rattle.scales.specs.Answers.{utcIn, glonassIn, galileoIn};
 ghost use Rattle.scales.specs.Scales.{gpsMinusGalileo};
 ghost use Rattle.conversions.specs.Shifted.{shiftedToUtc, utcToShifted, shiftedToGlonass, glonassToShifted};
 ghost use Rattle.builtin.specs.Builtin.{builtin};
+use crate::inner::shifted::shifted_from_glonass;
 use crate::inner::shifted::shifted_from_utc;
 use crate::inner::shifted::utc_from_shifted;
 use conversions::inner::steps;
@@ -39,6 +40,5 @@ pub fn galileo_to_glonass(galileo: Galileo) -> GlonassAnswer
 pub fn glonass_to_galileo(glonass: Glonass) -> GalileoAnswer
     ensures { λ r. ⌜ galileoIn r ≡ glonassToShifted gpsMinusGalileo builtin (glonass .0) ⌝ }
 {
-    let utc = steps::utc_from_glonass(CountAnswer::Count(glonass.0));
-    GalileoAnswer::of(shifted_from_utc(utc, Galileo::BEHIND_GPS_NS))
+    GalileoAnswer::of(shifted_from_glonass(CountAnswer::Count(glonass.0), Galileo::BEHIND_GPS_NS))
 }

@@ -1,13 +1,10 @@
 -- The conversions in the parts that a store calls, on outcomes: what a step before refused stays refused. Only
 -- contracts of functions in `inner` cite these definitions; proofs/ByLookup.antt says that they make up the
 -- conversions.
-use mathlib.Core.Bool.{Bool, false, _&&_}
-use Prim.Native.Nat.{ℕ, _-_}
-use lib.Dec.{ltb, leb}
+use Prim.Native.Nat.{ℕ}
 use lib.IntN.{ℤ, pos, _+ℤ_, _-ℤ_}
-use Rattle.refusals.specs.Outcome.{Outcome, answered, refused, valueIn, then, changed}
+use Rattle.refusals.specs.Outcome.{Outcome, valueIn, then, changed}
 use Rattle.counts.specs.Exact.{countOf}
-use Rattle.counts.specs.Units.{second}
 use Rattle.tables.specs.declared.Lookup.{Lookup}
 use Rattle.conversions.specs.Conversions.{E, inNanos, inRange, gpsAtOffset, firstReading, secondReading}
 
@@ -30,8 +27,3 @@ lastFor utc first a = valueIn a (changed (λ u. secondReading u (first .offset) 
 -- a UTC count as GPS, by what the last lookup tells
 abbrev pub gpsFromLookup : Lookup → Outcome ℕ → Outcome ℕ
 gpsFromLookup found utc = then utc (gpsAtOffset (found .offset))
-
--- whether a GPS count lies in the last second before d
-abbrev pub justBefore : ℕ → Outcome ℕ → Bool
-justBefore d (answered gps) = ltb gps d && leb (d - gps) second
-justBefore d (refused k) = false

@@ -13,22 +13,23 @@ use Rattle.conversions.specs.Conversions.{glonassEpoch, gpsToUtc, utcToG
 abbrev pub shiftedToUtc : ℕ → List Entry → ℕ → Outcome ℕ
 shiftedToUtc d es n = then (up d n) (gpsToUtc es)
 
--- whether an outcome is the answer n
-abbrev pub answers : Outcome ℕ → ℕ → Bool
-answers (answered m) n = eqb m n
-answers (refused k) n = false
+-- whether two outcomes are the same answer
+abbrev pub sameAnswer : Outcome ℕ → Outcome ℕ → Bool
+sameAnswer (answered m) (answered n) = eqb m n
+sameAnswer (answered m) (refused k) = false
+sameAnswer (refused k) o = false
 
--- the later of two GPS counts that share a UTC count under a regular table, a second after the earlier; 1 where there is
--- none
-abbrev pub laterOf : List Entry → ℕ → ℕ → Outcome ℕ
-laterOf es utc earlier =
+-- the later of two GPS counts that share a UTC count under a regular table, a second after the earlier; 1 where there
+-- is none
+abbrev pub laterOf : List Entry → ℕ → Outcome ℕ
+laterOf es earlier =
     let later = earlier + second in
-    cond (regular es && answers (gpsToUtc es later) utc) (answered later) (refused 1)
+    cond (regular es && sameAnswer (gpsToUtc es earlier) (gpsToUtc es later)) (answered later) (refused 1)
 
 -- by the later GPS count where the earlier lies before the scale's epoch
 abbrev pub utcToShifted : ℕ → List Entry → ℕ → Outcome ℕ
 utcToShifted d es utc =
-    then (utcToGps es utc) (λ gps. then (cond (leb d gps) (answered gps) (laterOf es utc gps)) (down d))
+    then (utcToGps es utc) (λ gps. then (cond (leb d gps) (answered gps) (laterOf es gps)) (down d))
 
 -- ---- by way of UTC
 abbrev pub shiftedToGlonass : ℕ → List Entry → ℕ → Outcome ℕ

@@ -72,8 +72,7 @@ fn gps_at_offset(offset: i32, utc: u64) -> CountAnswer
     sums::earlier(utc, Duration(utc_minus_gps(offset)))
 }
 
-// A count, or another number where there is none.
-pub fn count_or(answer: CountAnswer, other: u64) -> u64
+fn count_or(answer: CountAnswer, other: u64) -> u64
     ensures { λ r. ⌜ r ≡ valueIn other (countIn answer) ⌝ }
 {
     match answer {

@@ -18,7 +18,7 @@ use Rattle.tables.specs.Entries.{Entry, offsetAt, regular}
 use Rattle.tables.specs.Slots.{entriesOf, validTable}
 use Rattle.images.specs.Image.{sized, tableIn, byImage}
 use Rattle.conversions.specs.Conversions.{E, inNanos, inRange, utcAtOffset, lastReading, gpsToUtc, utcToGps}
-use Rattle.conversions.specs.Shifted.{answers, laterOf, shiftedToUtc, utcToShifted}
+use Rattle.conversions.specs.Shifted.{sameAnswer, laterOf, shiftedToUtc, utcToShifted}
 
 module _ (P : Outcome ℕ → Type 0) where
   -- whichever of the two a test takes
@@ -71,13 +71,13 @@ pub utc-to-shifted-numbered : (d : ℕ) (es : List Entry) (u : ℕ) → Numbered
 utc-to-shifted-numbered d es u =
     numbered-then (utcToGps es u) (λ g. then (taken g) (down d)) (to-gps-numbered es u) (λ g.
     numbered-then (taken g) (down d)
-    (either Numbered (leb d g) (answered g) (laterOf es u g) tt
-    (either Numbered (regular es && answers (gpsToUtc es (g + second)) u) (answered (g + second)) (refused 1) tt
+    (either Numbered (leb d g) (answered g) (laterOf es g) tt
+    (either Numbered (regular es && sameAnswer (gpsToUtc es g) (gpsToUtc es (g + second))) (answered (g + second)) (refused 1) tt
     (number-not-zero Overflow)))
     (λ m. count-numbered (pos m -ℤ pos d)))
   where
     taken : ℕ → Outcome ℕ
-    taken g = cond (leb d g) (answered g) (laterOf es u g)
+    taken g = cond (leb d g) (answered g) (laterOf es g)
 
 pub by-image-numbered : (b : List ℕ) (answer : List Entry → Outcome ℕ) → ((es : List Entry) → Numbered (answer es))
     → Numbered (byImage b answer)

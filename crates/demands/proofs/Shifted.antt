@@ -1,5 +1,5 @@
--- Demand 3 of a scale whose counts are those of GPS less d, for any d: first of GPS counts from d on, where the later of
--- two is taken if the earlier lies before d, and from there by FixedDifference.antt.
+-- Demand 3 of a scale whose counts are those of GPS less d, for any d: first of GPS counts from d on, where the later
+-- of two is taken if the earlier lies before d, and from there by FixedDifference.antt.
 use mathlib.Core.Path.{_≡_, refl, sym, ap, _∙_, subst}
 use mathlib.Core.Bool.{Bool, true, false, cond, false≢true}
 use mathlib.Core.List.{List}
@@ -17,7 +17,7 @@ use Rattle.counts.proofs.Difference.{below, of-naturals}
 use Rattle.scales.specs.Scales.{taiMinusGps}
 use Rattle.tables.specs.Entries.{Entry, offsetAt, regular}
 use Rattle.conversions.specs.Conversions.{utcAtOffset, gpsToUtc, utcToGps}
-use Rattle.conversions.specs.Shifted.{answers, laterOf, shiftedToUtc, utcToShifted}
+use Rattle.conversions.specs.Shifted.{sameAnswer, laterOf, shiftedToUtc, utcToShifted}
 use Rattle.demands.specs.TwoInstants.{Converts, TwoInstants}
 use Rattle.demands.proofs.Demand3.{by-regular-lists}
 use Rattle.demands.proofs.FixedDifference.{counts-less}
@@ -25,9 +25,10 @@ use Rattle.demands.proofs.OnNaturals.{went-on}
 use Rattle.demands.proofs.SameAnswers.{kept}
 
 -- what a test of an outcome tells
-is-answer : (o : Outcome ℕ) (n : ℕ) → answers o n ≡ true → o ≡ answered n
-is-answer (answered m) n t = ap answered (eqb-true m n t)
-is-answer (refused k) n t = cc
+is-answer : (o p : Outcome ℕ) {n : ℕ} → o ≡ answered n → sameAnswer o p ≡ true → p ≡ answered n
+is-answer (answered m) (answered n) e t = ap answered (sym (eqb-true m n t)) ∙ e
+is-answer (answered m) (refused k) e t = cc
+is-answer (refused k) p e t = cc
 
 module _ (es : List Entry) (r : regular es ≡ true) (d : ℕ) where
   abbrev t : TwoInstants es taiMinusGps 0 (gpsToUtc es) (utcToGps es)
@@ -37,11 +38,11 @@ module _ (es : List Entry) (r : regular es ≡ true) (d : ℕ) where
   abbrev fromD : ℕ → Outcome ℕ
   fromD n = cond (leb d n) (answered n) (refused 1)
 
-  abbrev going : ℕ → ℕ → Outcome ℕ
-  going u g = cond (leb d g) (answered g) (then (laterOf es u g) fromD)
+  abbrev going : ℕ → Outcome ℕ
+  going g = cond (leb d g) (answered g) (then (laterOf es g) fromD)
 
   abbrev back : ℕ → Outcome ℕ
-  back u = then (utcToGps es u) (going u)
+  back u = then (utcToGps es u) going
 
   -- the ways in which it comes to its answer
   data Way (u : ℕ) : Type 0 where
@@ -52,24 +53,34 @@ module _ (es : List Entry) (r : regular es ≡ true) (d : ℕ) where
     neither : {g : ℕ} → utcToGps es u ≡ answered g → g < d
         → (d ≤ g + second → gpsToUtc es (g + second) ≡ answered u → ⊥) → back u ≡ refused 1 → Way u
 
-  way : (u : ℕ) → Way u
-  way u = of (utcToGps es u) refl
+  way : (u : ℕ) → u < 2 ^ 64 → Way u
+  way u m = of (utcToGps es u) refl
     where
-      by-test : {g : ℕ} → utcToGps es u ≡ answered g → g < d → (b : Bool) → answers (gpsToUtc es (g + second)) u ≡ b
-          → Dec (d ≤ g + second) → Way u
+      -- the earlier count converts back, so the test compares the later one's UTC count with u
+      converts : {g : ℕ} → utcToGps es u ≡ answered g → gpsToUtc es g ≡ answered u
+      converts {g} e = t .converts-back u g m e .2
+
+      by-test : {g : ℕ} → utcToGps es u ≡ answered g → g < d → (b : Bool)
+          → sameAnswer (gpsToUtc es g) (gpsToUtc es (g + second)) ≡ b → Dec (d ≤ g + second) → Way u
       by-test {g} e l true s (yes h) =
-          later e l h (is-answer (gpsToUtc es (g + second)) u s)
-          (goes-on (going u) e ∙ rw (lt-leb d g l, r, s, le-leb d (g + second) h))
+          later e l h (is-answer (gpsToUtc es g) (gpsToUtc es (g + second)) (converts e) s)
+          (goes-on going e ∙ rw (lt-leb d g l, r, s, le-leb d (g + second) h))
       by-test {g} e l true s (no h) =
-          neither e l (λ h′ p. h h′) (goes-on (going u) e ∙ rw (lt-leb d g l, r, s, lt-leb d (g + second) (omega (arith, h))))
+          neither e l (λ h′ p. h h′)
+          (goes-on going e ∙ rw (lt-leb d g l, r, s, lt-leb d (g + second) (omega (arith, h))))
       by-test {g} e l false s h =
-          neither e l (λ h′ p. let yes-it-is : answers (gpsToUtc es (g + second)) u ≡ true = rw p (eq-eqb u u refl) in false≢true (sym s ∙ yes-it-is))
-          (goes-on (going u) e ∙ rw (lt-leb d g l, r, s))
+          neither e l
+          (λ h′ p.
+          let same : sameAnswer (gpsToUtc es g) (gpsToUtc es (g + second)) ≡ true =
+          (λ i. sameAnswer (converts e i) (p i)) ∙ eq-eqb u u refl in
+          false≢true (sym s ∙ same))
+          (goes-on going e ∙ rw (lt-leb d g l, r, s))
 
       by-order : {g : ℕ} → utcToGps es u ≡ answered g → Dec (d ≤ g) → Way u
-      by-order {g} e (yes h) = earlier e h (goes-on (going u) e ∙ rw (le-leb d g h))
+      by-order {g} e (yes h) = earlier e h (goes-on going e ∙ rw (le-leb d g h))
       by-order {g} e (no h) =
-          by-test e (omega (arith, h)) (answers (gpsToUtc es (g + second)) u) refl (decLe d (g + second))
+          by-test e (omega (arith, h)) (sameAnswer (gpsToUtc es g) (gpsToUtc es (g + second))) refl
+          (decLe d (g + second))
 
       of : (o : Outcome ℕ) → utcToGps es u ≡ o → Way u
       of (refused k) e = none e
@@ -93,14 +104,16 @@ module _ (es : List Entry) (r : regular es ≡ true) (d : ℕ) where
 
   from-d : TwoInstants es taiMinusGps d (gpsToUtc es) back
   from-d = record {
-    refused-exactly = λ u m. (λ (k, e) n c. no-count u m k e n c (way u), λ nothing. none-refused u m nothing (way u));
-    the-earliest = λ u n m e n′ c. earliest u n m e n′ c (way u);
-    converts-back = λ u n m e. converts u n m e (way u);
+    refused-exactly = λ u m.
+        (λ (k, e) n c. no-count u m k e n c (way u m), λ nothing. none-refused u m nothing (way u m));
+    the-earliest = λ u n m e n′ c. earliest u n m e n′ c (way u m);
+    converts-back = λ u n m e. converts u n m e (way u m);
     shared-exactly = λ n₁ n₂ u₁ u₂ c₁ c₂. t .shared-exactly n₁ n₂ u₁ u₂ (any c₁) (any c₂);
     at-most-two = λ n₁ n₂ n₃ u c₁ c₂ c₃. t .at-most-two n₁ n₂ n₃ u (any c₁) (any c₂) (any c₃);
   }
     where
-      no-count : (u : ℕ) → u < 2 ^ 64 → (k : ℕ) → back u ≡ refused k → (n : ℕ) → Converts d (gpsToUtc es) n u → Way u → ⊥
+      no-count : (u : ℕ) → u < 2 ^ 64 → (k : ℕ) → back u ≡ refused k → (n : ℕ) → Converts d (gpsToUtc es) n u → Way u
+          → ⊥
       no-count u m j e n c (none {k} p) = t .refused-exactly u m .0 (k, p) n (any c)
       no-count u m k e n c (earlier p l b) = no-refusal (back u) b e
       no-count u m k e n c (later p l h s b) = no-refusal (back u) b e
@@ -110,15 +123,16 @@ module _ (es : List Entry) (r : regular es ≡ true) (d : ℕ) where
 
       none-refused : (u : ℕ) → u < 2 ^ 64 → ((n : ℕ) → Converts d (gpsToUtc es) n u → ⊥) → Way u
           → (k : ℕ) × (back u ≡ refused k)
-      none-refused u m nothing (none {k} p) = (k, stops (going u) p)
+      none-refused u m nothing (none {k} p) = (k, stops going p)
       none-refused u m nothing (earlier {g} p l b) =
           let c = t .converts-back u g m p in
           absurd (nothing g (l, c .1, c .2))
       none-refused u m nothing (later {g} p l h s b) = absurd (nothing (g + second) (h, count (g + second) s, s))
       none-refused u m nothing (neither p l not b) = (1, b)
 
-      earliest : (u n : ℕ) → u < 2 ^ 64 → back u ≡ answered n → (n′ : ℕ) → Converts d (gpsToUtc es) n′ u → Way u → n ≤ n′
-      earliest u n m e n′ c (none p) = absurd (no-refusal (back u) e (stops (going u) p))
+      earliest : (u n : ℕ) → u < 2 ^ 64 → back u ≡ answered n → (n′ : ℕ) → Converts d (gpsToUtc es) n′ u → Way u
+          → n ≤ n′
+      earliest u n m e n′ c (none p) = absurd (no-refusal (back u) e (stops going p))
       earliest u n m e n′ c (earlier {g} p l b) =
           let is = one-answer (back u) e b in
           omega (arith, t .the-earliest u g m p n′ (any c))
@@ -128,7 +142,7 @@ module _ (es : List Entry) (r : regular es ≡ true) (d : ℕ) where
       earliest u n m e n′ c (neither p l not b) = absurd (no-refusal (back u) e b)
 
       converts : (u n : ℕ) → u < 2 ^ 64 → back u ≡ answered n → Way u → Converts d (gpsToUtc es) n u
-      converts u n m e (none p) = absurd (no-refusal (back u) e (stops (going u) p))
+      converts u n m e (none p) = absurd (no-refusal (back u) e (stops going p))
       converts u n m e (earlier {g} p l b) =
           let c = t .converts-back u g m p in
           subst (λ (x : ℕ). Converts d (gpsToUtc es) x u) (one-answer (back u) b e) (l, c .1, c .2)
@@ -152,16 +166,17 @@ module _ (es : List Entry) (r : regular es ≡ true) (d : ℕ) where
       through (refused k) = refl
 
       by-test : (g : ℕ) (b : Bool)
-          → then (cond b (answered g) (laterOf es u g)) (down d)
-          ≡ then (cond b (answered g) (then (laterOf es u g) fromD)) (down d)
+          → then (cond b (answered g) (laterOf es g)) (down d)
+          ≡ then (cond b (answered g) (then (laterOf es g) fromD)) (down d)
       by-test g true = refl
-      by-test g false = through (laterOf es u g)
+      by-test g false = through (laterOf es g)
 
       go : (o : Outcome ℕ)
-          → then o (λ g. then (cond (leb d g) (answered g) (laterOf es u g)) (down d))
-          ≡ then (then o (going u)) (down d)
+          → then o (λ g. then (cond (leb d g) (answered g) (laterOf es g)) (down d))
+          ≡ then (then o going) (down d)
       go (answered g) = by-test g (leb d g)
       go (refused k) = refl
 
   pub shifted-instants : TwoInstants es (taiMinusGps + d) 0 (shiftedToUtc d es) (utcToShifted d es)
-  shifted-instants = kept es (taiMinusGps + d) 0 (λ n l. refl) (λ u l. as-defined u) (counts-less es taiMinusGps d from-d)
+  shifted-instants =
+      kept es (taiMinusGps + d) 0 (λ n l. refl) (λ u l. as-defined u) (counts-less es taiMinusGps d from-d)

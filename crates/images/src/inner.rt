@@ -4,15 +4,23 @@ pub mod lookup;
 pub mod slots;
 
 ghost use mathlib.Core.Path.{_≡_};
+ghost use mathlib.Core.Bool.{true};
 ghost use mathlib.Core.List.{[], map};
 ghost use Prim.Native.Nat.{ℕ, _+_, _*_, _≤_, _<_};
 ghost use lib.ListN.{length, take, drop};
 ghost use mir.Syntax.{w32};
 ghost use mir.Val.{toZ};
 ghost use Rattle.refusals.specs.Number.{numberOf};
+ghost use Rattle.refusals.specs.Outcome.{then};
+ghost use Rattle.counts.specs.Exact.{down};
+ghost use Rattle.counts.specs.Answers.{countIn};
 ghost use Rattle.tables.specs.Answers.{tableAnswerIn};
-ghost use Rattle.tables.specs.Slots.{tableOf};
+ghost use Rattle.tables.specs.Slots.{tableOf, entriesOf, validTable};
+ghost use Rattle.conversions.specs.Shifted.{laterOf};
 ghost use Rattle.images.specs.Image.{numbersIn, imageBytes, tableIn, imageOf};
+use conversions::inner::later::later_of;
+use conversions::inner::steps;
+use counts::CountAnswer;
 use refusals::Refusal;
 use tables::LeapTable;
 use tables::RUNTIME_CAPACITY;
@@ -104,6 +112,16 @@ pub fn table_in(image: &[u8]) -> LeapTable
         offsets,
         len,
     }
+}
+
+// The count of a scale that is behind GPS, by the later of two GPS counts that share a UTC count. The table is copied for
+// that, where the earlier lies before the scale's epoch.
+pub fn shifted_by_later(image: &[u8], gps: u64, behind: u64) -> CountAnswer
+    requires { ⌜ length (now image) ≡ imageBytes ⌝ }
+    requires { ⌜ validTable (tableIn (now image)) ≡ true ⌝ }
+    ensures { λ r. ⌜ countIn r ≡ then (laterOf (entriesOf (tableIn (now (image .entry)))) gps) (down behind) ⌝ }
+{
+    steps::down(later_of(gps, table_in(image)), behind)
 }
 
 // The image of a table over what was there: the length, then a threshold and an offset at a turn.

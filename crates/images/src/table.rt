@@ -9,23 +9,21 @@ ghost use Rattle.counts.specs.Answers.{countIn};
 ghost use Rattle.tables.specs.Entries.{entry, offsetAt, currentOffset, lastUpdate};
 ghost use Rattle.tables.specs.Answers.{takenIn, tableAnswerIn, lengthIn, emptyIn, entryIn, updateIn, offsetIn};
 ghost use Rattle.conversions.specs.Conversions.{gpsToUtc, utcToGps};
-ghost use Rattle.conversions.specs.Shifted.{shiftedToUtc, utcToShifted};
+ghost use Rattle.conversions.specs.Shifted.{shiftedToUtc, utcToShifted, glonassToShifted};
 ghost use Rattle.images.specs.Image.{byImage, imageRead, imageWritten, builtFrom, imageExtended};
 use crate::inner;
 use crate::inner::lookup;
 use crate::inner::lookup::is_valid;
 use crate::inner::slots;
-use conversions::inner::count_or;
 use conversions::inner::first_reading_of;
 use conversions::inner::gps_from_lookup;
 use conversions::inner::last_reading_of;
-use conversions::inner::later::just_before;
-use conversions::inner::later::later_of;
 use conversions::inner::reading_of;
 use conversions::inner::steps;
 use conversions::inner::tai_of;
 use conversions::inner::utc_from_lookup;
 use counts::CountAnswer;
+use counts::sums;
 use refusals::Refusal;
 use scales::tai::Tai;
 use tables::EmptyAnswer;
@@ -215,16 +213,36 @@ pub fn utc_from_shifted(count: CountAnswer, image: &[u8], behind: u64) -> CountA
     utc_from_gps(steps::up(count, behind), image)
 }
 
-// UTC to a scale that is behind GPS: as `gps_from_utc`, then 1 before the scale's epoch. The table is copied in the last
-// second before the epoch alone, to look for the later of two GPS counts.
+// UTC to a scale that is behind GPS: as `gps_from_utc`, then 1 before the scale's epoch.
 pub fn shifted_from_utc(utc: CountAnswer, image: &[u8], behind: u64) -> CountAnswer
     ensures { λ r. ⌜ countIn r ≡ byImage (now (image .entry)) (λ es. then (countIn utc) (utcToShifted behind es)) ⌝ }
 {
-    let gps = gps_from_utc(utc, image);
-    if just_before(gps, behind) {
-        let table = inner::table_in(image);
-        let later = later_of(count_or(gps, 0), count_or(utc, 0), table);
-        return steps::down(later, behind);
+    match gps_from_utc(utc, image) {
+        CountAnswer::Count(gps) => {
+            if gps < behind {
+                inner::shifted_by_later(image, gps, behind)
+            } else {
+                sums::minus(gps, behind)
+            }
+        }
+        CountAnswer::Refused(why) => CountAnswer::Refused(why),
     }
-    steps::down(gps, behind)
+}
+
+// The same from GLONASS, by way of UTC. It is written out: what is rare, and taken by two functions, the compiler leaves
+// out of line.
+pub fn shifted_from_glonass(glonass: CountAnswer, image: &[u8], behind: u64) -> CountAnswer
+    ensures { λ r. ⌜ countIn r ≡
+        byImage (now (image .entry)) (λ es. then (countIn glonass) (glonassToShifted behind es)) ⌝ }
+{
+    match gps_from_utc(steps::utc_from_glonass(glonass), image) {
+        CountAnswer::Count(gps) => {
+            if gps < behind {
+                inner::shifted_by_later(image, gps, behind)
+            } else {
+                sums::minus(gps, behind)
+            }
+        }
+        CountAnswer::Refused(why) => CountAnswer::Refused(why),
+    }
 }

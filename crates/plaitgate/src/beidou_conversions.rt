@@ -33,7 +33,8 @@ pub extern "C" fn plaitgate_builtin_beidou_to_utc(beidou: u64, utc: &mut u64) ->
     ensures { λ r. ⌜ Gives 0 (shiftedToUtc gpsMinusBeidou builtin beidou) r (now (utc .exit)) ⌝ }
 {
     let count = CountAnswer::Count(beidou);
-    give::count(shifted::utc_from_shifted(count, Beidou::BEHIND_GPS_NS), utc)
+    let answer = shifted::utc_from_shifted(count, Beidou::BEHIND_GPS_NS);
+    give::count(answer, utc)
 }
 
 #[no_mangle]
@@ -41,10 +42,8 @@ pub extern "C" fn plaitgate_builtin_utc_to_beidou(utc: u64, beidou: &mut u64) ->
     ensures { λ r. ⌜ Gives 0 (utcToShifted gpsMinusBeidou builtin utc) r (now (beidou .exit)) ⌝ }
 {
     let count = CountAnswer::Count(utc);
-    give::count(
-        shifted::shifted_from_utc(count, Beidou::BEHIND_GPS_NS),
-        beidou,
-    )
+    let answer = shifted::shifted_from_utc(count, Beidou::BEHIND_GPS_NS);
+    give::count(answer, beidou)
 }
 
 #[no_mangle]
@@ -59,11 +58,9 @@ pub extern "C" fn plaitgate_builtin_beidou_to_glonass(beidou: u64, glonass: &mut
 pub extern "C" fn plaitgate_builtin_glonass_to_beidou(glonass: u64, beidou: &mut u64) -> u32
     ensures { λ r. ⌜ Gives 0 (glonassToShifted gpsMinusBeidou builtin glonass) r (now (beidou .exit)) ⌝ }
 {
-    let utc = steps::utc_from_glonass(CountAnswer::Count(glonass));
-    give::count(
-        shifted::shifted_from_utc(utc, Beidou::BEHIND_GPS_NS),
-        beidou,
-    )
+    let count = CountAnswer::Count(glonass);
+    let answer = shifted::shifted_from_glonass(count, Beidou::BEHIND_GPS_NS);
+    give::count(answer, beidou)
 }
 
 #[no_mangle]
@@ -72,10 +69,8 @@ pub extern "C" fn plaitgate_table_beidou_to_utc(beidou: u64, image: &[u8], utc: 
         (now (utc .exit)) ⌝ }
 {
     let count = CountAnswer::Count(beidou);
-    give::count(
-        table::utc_from_shifted(count, image, Beidou::BEHIND_GPS_NS),
-        utc,
-    )
+    let answer = table::utc_from_shifted(count, image, Beidou::BEHIND_GPS_NS);
+    give::count(answer, utc)
 }
 
 #[no_mangle]
@@ -84,10 +79,8 @@ pub extern "C" fn plaitgate_table_utc_to_beidou(utc: u64, image: &[u8], beidou: 
         (now (beidou .exit)) ⌝ }
 {
     let count = CountAnswer::Count(utc);
-    give::count(
-        table::shifted_from_utc(count, image, Beidou::BEHIND_GPS_NS),
-        beidou,
-    )
+    let answer = table::shifted_from_utc(count, image, Beidou::BEHIND_GPS_NS);
+    give::count(answer, beidou)
 }
 
 #[no_mangle]
@@ -112,9 +105,7 @@ pub extern "C" fn plaitgate_table_glonass_to_beidou(
     ensures { λ r. ⌜ Gives 0 (byImage (now (image .entry)) (λ es. glonassToShifted gpsMinusBeidou es glonass)) r
         (now (beidou .exit)) ⌝ }
 {
-    let utc = steps::utc_from_glonass(CountAnswer::Count(glonass));
-    give::count(
-        table::shifted_from_utc(utc, image, Beidou::BEHIND_GPS_NS),
-        beidou,
-    )
+    let count = CountAnswer::Count(glonass);
+    let answer = table::shifted_from_glonass(count, image, Beidou::BEHIND_GPS_NS);
+    give::count(answer, beidou)
 }

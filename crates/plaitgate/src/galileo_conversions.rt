@@ -33,10 +33,8 @@ pub extern "C" fn plaitgate_builtin_galileo_to_utc(galileo: u64, utc: &mut u64) 
     ensures { λ r. ⌜ Gives 0 (shiftedToUtc gpsMinusGalileo builtin galileo) r (now (utc .exit)) ⌝ }
 {
     let count = CountAnswer::Count(galileo);
-    give::count(
-        shifted::utc_from_shifted(count, Galileo::BEHIND_GPS_NS),
-        utc,
-    )
+    let answer = shifted::utc_from_shifted(count, Galileo::BEHIND_GPS_NS);
+    give::count(answer, utc)
 }
 
 #[no_mangle]
@@ -44,10 +42,8 @@ pub extern "C" fn plaitgate_builtin_utc_to_galileo(utc: u64, galileo: &mut u64) 
     ensures { λ r. ⌜ Gives 0 (utcToShifted gpsMinusGalileo builtin utc) r (now (galileo .exit)) ⌝ }
 {
     let count = CountAnswer::Count(utc);
-    give::count(
-        shifted::shifted_from_utc(count, Galileo::BEHIND_GPS_NS),
-        galileo,
-    )
+    let answer = shifted::shifted_from_utc(count, Galileo::BEHIND_GPS_NS);
+    give::count(answer, galileo)
 }
 
 #[no_mangle]
@@ -62,11 +58,9 @@ pub extern "C" fn plaitgate_builtin_galileo_to_glonass(galileo: u64, glonass: &m
 pub extern "C" fn plaitgate_builtin_glonass_to_galileo(glonass: u64, galileo: &mut u64) -> u32
     ensures { λ r. ⌜ Gives 0 (glonassToShifted gpsMinusGalileo builtin glonass) r (now (galileo .exit)) ⌝ }
 {
-    let utc = steps::utc_from_glonass(CountAnswer::Count(glonass));
-    give::count(
-        shifted::shifted_from_utc(utc, Galileo::BEHIND_GPS_NS),
-        galileo,
-    )
+    let count = CountAnswer::Count(glonass);
+    let answer = shifted::shifted_from_glonass(count, Galileo::BEHIND_GPS_NS);
+    give::count(answer, galileo)
 }
 
 #[no_mangle]
@@ -75,10 +69,8 @@ pub extern "C" fn plaitgate_table_galileo_to_utc(galileo: u64, image: &[u8], utc
         (now (utc .exit)) ⌝ }
 {
     let count = CountAnswer::Count(galileo);
-    give::count(
-        table::utc_from_shifted(count, image, Galileo::BEHIND_GPS_NS),
-        utc,
-    )
+    let answer = table::utc_from_shifted(count, image, Galileo::BEHIND_GPS_NS);
+    give::count(answer, utc)
 }
 
 #[no_mangle]
@@ -87,10 +79,8 @@ pub extern "C" fn plaitgate_table_utc_to_galileo(utc: u64, image: &[u8], galileo
         (now (galileo .exit)) ⌝ }
 {
     let count = CountAnswer::Count(utc);
-    give::count(
-        table::shifted_from_utc(count, image, Galileo::BEHIND_GPS_NS),
-        galileo,
-    )
+    let answer = table::shifted_from_utc(count, image, Galileo::BEHIND_GPS_NS);
+    give::count(answer, galileo)
 }
 
 #[no_mangle]
@@ -115,9 +105,7 @@ pub extern "C" fn plaitgate_table_glonass_to_galileo(
     ensures { λ r. ⌜ Gives 0 (byImage (now (image .entry)) (λ es. glonassToShifted gpsMinusGalileo es glonass)) r
         (now (galileo .exit)) ⌝ }
 {
-    let utc = steps::utc_from_glonass(CountAnswer::Count(glonass));
-    give::count(
-        table::shifted_from_utc(utc, image, Galileo::BEHIND_GPS_NS),
-        galileo,
-    )
+    let count = CountAnswer::Count(glonass);
+    let answer = table::shifted_from_glonass(count, image, Galileo::BEHIND_GPS_NS);
+    give::count(answer, galileo)
 }

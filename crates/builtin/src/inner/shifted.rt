@@ -1,17 +1,17 @@
 // A scale that is behind GPS by a fixed number of nanoseconds, to UTC and back by the built-in table.
 ghost use mathlib.Core.Path.{_≡_};
 ghost use Rattle.refusals.specs.Outcome.{then};
+ghost use Rattle.counts.specs.Exact.{down};
 ghost use Rattle.counts.specs.Answers.{countIn};
-ghost use Rattle.conversions.specs.Shifted.{shiftedToUtc, utcToShifted};
+ghost use Rattle.conversions.specs.Shifted.{shiftedToUtc, laterOf, utcToShifted, glonassToShifted};
 ghost use Rattle.builtin.specs.Builtin.{builtin};
 use crate::from_builtin;
 use crate::inner::by_utc::gps_from_utc;
 use crate::inner::lookup::utc_from_gps;
-use conversions::inner::count_or;
-use conversions::inner::later::just_before;
 use conversions::inner::later::later_of;
 use conversions::inner::steps;
 use counts::CountAnswer;
+use counts::sums;
 
 pub fn utc_from_shifted(count: CountAnswer, behind: u64) -> CountAnswer
     ensures { λ r. ⌜ countIn r ≡ then (countIn count) (shiftedToUtc behind builtin) ⌝ }
@@ -19,13 +19,41 @@ pub fn utc_from_shifted(count: CountAnswer, behind: u64) -> CountAnswer
     utc_from_gps(steps::up(count, behind))
 }
 
+// The count by the later of two GPS counts that share a UTC count.
+fn shifted_by_later(gps: u64, behind: u64) -> CountAnswer
+    ensures { λ r. ⌜ countIn r ≡ then (laterOf builtin gps) (down behind) ⌝ }
+{
+    steps::down(later_of(gps, from_builtin()), behind)
+}
+
 pub fn shifted_from_utc(utc: CountAnswer, behind: u64) -> CountAnswer
     ensures { λ r. ⌜ countIn r ≡ then (countIn utc) (utcToShifted behind builtin) ⌝ }
 {
-    let gps = gps_from_utc(utc);
-    if just_before(gps, behind) {
-        let later = later_of(count_or(gps, 0), count_or(utc, 0), from_builtin());
-        return steps::down(later, behind);
+    match gps_from_utc(utc) {
+        CountAnswer::Count(gps) => {
+            if gps < behind {
+                shifted_by_later(gps, behind)
+            } else {
+                sums::minus(gps, behind)
+            }
+        }
+        CountAnswer::Refused(why) => CountAnswer::Refused(why),
     }
-    steps::down(gps, behind)
+}
+
+// The same from GLONASS, by way of UTC. It is written out: what is rare, and taken by two functions, the compiler leaves
+// out of line.
+pub fn shifted_from_glonass(glonass: CountAnswer, behind: u64) -> CountAnswer
+    ensures { λ r. ⌜ countIn r ≡ then (countIn glonass) (glonassToShifted behind builtin) ⌝ }
+{
+    match gps_from_utc(steps::utc_from_glonass(glonass)) {
+        CountAnswer::Count(gps) => {
+            if gps < behind {
+                shifted_by_later(gps, behind)
+            } else {
+                sums::minus(gps, behind)
+            }
+        }
+        CountAnswer::Refused(why) => CountAnswer::Refused(why),
+    }
 }

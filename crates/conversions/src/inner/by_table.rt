@@ -6,17 +6,16 @@ ghost use Rattle.counts.specs.Answers.{countIn};
 ghost use Rattle.tables.specs.Slots.{entriesOf, ofValid};
 ghost use Rattle.conversions.specs.Conversions.{gpsToUtc, utcToGps};
 ghost use Rattle.conversions.specs.Shifted.{shiftedToUtc, utcToShifted};
-use crate::inner::count_or;
 use crate::inner::first_reading_of;
 use crate::inner::gps_from_lookup;
 use crate::inner::last_reading_of;
-use crate::inner::later::just_before;
 use crate::inner::later::later_of;
 use crate::inner::reading_of;
 use crate::inner::steps;
 use crate::inner::tai_of;
 use crate::inner::utc_from_lookup;
 use counts::CountAnswer;
+use counts::sums;
 use tables::LeapTable;
 use tables::LookupAnswer;
 use tables::inner::checked_look_up;
@@ -54,10 +53,14 @@ pub fn utc_from_shifted(count: CountAnswer, table: LeapTable, behind: u64) -> Co
 pub fn shifted_from_utc(utc: CountAnswer, table: LeapTable, behind: u64) -> CountAnswer
     ensures { λ r. ⌜ countIn r ≡ ofValid table (then (countIn utc) (utcToShifted behind (entriesOf table))) ⌝ }
 {
-    let gps = gps_from_utc(utc, table);
-    if just_before(gps, behind) {
-        let later = later_of(count_or(gps, 0), count_or(utc, 0), table);
-        return steps::down(later, behind);
+    match gps_from_utc(utc, table) {
+        CountAnswer::Count(gps) => {
+            if gps < behind {
+                steps::down(later_of(gps, table), behind)
+            } else {
+                sums::minus(gps, behind)
+            }
+        }
+        CountAnswer::Refused(why) => CountAnswer::Refused(why),
     }
-    steps::down(gps, behind)
 }

@@ -1,5 +1,5 @@
--- Galileo and BeiDou: each call leaves one refusal number, and one value through each reference that it writes, for each
--- input.
+-- Galileo and BeiDou: each call leaves one refusal number, and one value through each reference that it writes, for
+-- each input.
 use denote.Ref.{now}
 use Rattle.refusals.proofs.OneAnswer.{OneAnswerAndEnd, both}
 use Rattle.plaitgate.proofs.galileo_beidou

@@ -14,7 +14,8 @@ returns : call.Tie.Need-returns
 returns c =
     let steps = c .before .before in
     let a = steps .before .before .before .args in
-    let eight = byImage-then (now (a .image)) (λ es. shiftedToUtc gpsMinusGalileo es (a .galileo)) (down glonassEpoch) in
+    let eight =
+    byImage-then (now (a .image)) (λ es. shiftedToUtc gpsMinusGalileo es (a .galileo)) (down glonassEpoch) in
     gives-same 0 eight
     (gives-step 0 (λ o. then o (down glonassEpoch)) (steps .glonass-from-utc .ensures)
     (steps .before .utc-from-shifted .ensures)

@@ -18,7 +18,8 @@ returns-2 : call.Tie.Need-returns-2
 returns-2 c =
     let told = c .before in
     let summed = told .before .before in
-    sym (stops (down (summed .before .args .other-behind)) (sym (summed .plus .ensures) ∙ ap countIn (told .why .given .1)))
+    sym (stops (down (summed .before .args .other-behind))
+    (sym (summed .plus .ensures) ∙ ap countIn (told .why .given .1)))
 
 pub by-way-of-gps-spec : {M : Type 1} → call.Statement.statement M
 by-way-of-gps-spec =

@@ -7,7 +7,7 @@ use Rattle.tables.proofs.Checked.{Checked, checked, good}
 use Rattle.conversions.proofs.Later.{not-regular, not-shared, shared}
 use Rattle.conversions.proofs.inner.later.later_of as call
 
-valid-table : (c : call.Tie.Start) → Checked (c .args .t3)
+valid-table : (c : call.Tie.Start) → Checked (c .args .t2)
 valid-table c = checked _ (search needs) (search needs) (c .pre)
 
 is-regular-requires : call.Tie.Need-is-regular-requires
@@ -18,29 +18,32 @@ is-regular-requires c κs =
 returns : call.Tie.Need-returns
 returns c =
     let a = c .before .before .before .before .before .before .before .args in
-    not-regular (entriesOf (a .t3)) (a .utc) (a .earlier)
-    (sym (c .before .is-regular .ensures) ∙ not-true _ (c .if1 .taken))
+    not-regular (entriesOf (a .t2)) (a .earlier) (sym (c .before .is-regular .ensures) ∙ not-true _ (c .if1 .taken))
 
 returns-2 : call.Tie.Need-returns-2
 returns-2 c =
-    let to-utc = c .before .before in
-    let regular = to-utc .before .before in
+    let later = c .before .before in
+    let earlier = later .before in
+    let regular = earlier .before .before in
     let start = regular .before .before .before .before .before .before .before in
-    shared (entriesOf (start .args .t3)) (start .args .utc) (start .args .earlier) (to-utc .before .plus .ensures)
-    (to-utc .utc-from-gps .ensures ∙ sym (good (start .args .t3) _ (start .pre)))
+    shared (entriesOf (start .args .t2)) (start .args .earlier) (earlier .before .plus .ensures)
+    (earlier .utc-from-gps .ensures ∙ sym (good (start .args .t2) _ (start .pre)))
+    (later .utc-from-gps2 .ensures ∙ sym (good (start .args .t2) _ (start .pre)))
     (sym (regular .before .is-regular .ensures) ∙ not-false _ (regular .if1 .left))
-    (sym (c .before .is-count .ensures) ∙ c .if2 .taken)
+    (sym (c .before .same-count .ensures) ∙ c .if2 .taken)
 
 returns-3 : call.Tie.Need-returns-3
 returns-3 c =
-    let to-utc = c .before .before in
-    let regular = to-utc .before .before in
-    let start = regular .before .before .before .before .before .before .before in
-    not-shared (entriesOf (start .args .t3)) (start .args .utc) (start .args .earlier) (to-utc .before .plus .ensures)
-    (to-utc .utc-from-gps .ensures ∙ sym (good (start .args .t3) _ (start .pre)))
-    (sym (c .before .is-count .ensures) ∙ c .if2 .left)
+    let later = c .before .before in
+    let earlier = later .before in
+    let start = earlier .before .before .before .before .before .before .before .before .before in
+    not-shared (entriesOf (start .args .t2)) (start .args .earlier) (earlier .before .plus .ensures)
+    (earlier .utc-from-gps .ensures ∙ sym (good (start .args .t2) _ (start .pre)))
+    (later .utc-from-gps2 .ensures ∙ sym (good (start .args .t2) _ (start .pre)))
+    (sym (c .before .same-count .ensures) ∙ c .if2 .left)
 
 pub later-of-spec : {M : Type 1} → call.Statement.statement M
 later-of-spec =
     call.Tie.close
-    (call.Tie.spec is-regular-requires returns (search needs) (search needs) (search needs) returns-2 returns-3)
+    (call.Tie.spec is-regular-requires returns (search needs) (search needs) (search needs) (search needs) returns-2
+    returns-3)
