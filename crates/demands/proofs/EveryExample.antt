@@ -24,6 +24,8 @@ at h m s n d = fields (d .year) (d .month) (d .day) h m s n
 pub every-example : (week : ℕ) → Every (examples week)
 unfolding builtin events thresholdOf entriesFrom formula era yoe doy doe neighbours lastUpTo lookup lastOr joinRefusal paired
 every-example week =
-    refl also refl also refl also refl also refl also refl also refl also refl also refl also refl also
-    refl also refl also refl also refl also refl also refl also refl also ap (at 23 34 33 709_551_615) last-day also
+    refl also refl also refl also refl also refl also refl also refl also refl also refl also refl also refl also refl also
+    refl also refl also refl also refl also refl also refl also refl also refl also refl also refl also refl also refl also
+    refl also refl also refl also refl also refl also refl also refl also refl also refl also refl also refl also refl also
+    ap (at 23 34 33 709_551_615) last-day also
     refl also refl also refl also refl also refl also refl also refl also refl also refl also none-left

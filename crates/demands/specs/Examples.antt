@@ -5,12 +5,14 @@ use mathlib.Core.List.{List, [], _∷_}
 use Prim.Native.Nat.{ℕ, _*_}
 use lib.IntN.{pos}
 use Rattle.refusals.specs.Outcome.{answered, refused}
-use Rattle.counts.specs.Exact.{up}
+use Rattle.counts.specs.Exact.{up, down}
 use Rattle.counts.specs.Units.{second, weekSeconds, ofUnits}
 use Rattle.civil.specs.Fields.{fields, fieldsOf, countAt}
 use Rattle.tables.specs.Entries.{Entry, entry, regular}
 use Rattle.tables.specs.Slots.{tableOf, extended}
 use Rattle.conversions.specs.Conversions.{glonassEpoch, gpsToUtc, utcToGps, glonassToGps}
+use Rattle.conversions.specs.Shifted.{shiftedToUtc, utcToShifted, glonassToShifted}
+use Rattle.scales.specs.Scales.{gpsMinusGalileo, gpsMinusBeidou}
 use Rattle.builtin.specs.Builtin.{builtin}
 
 infix 68 _is_
@@ -31,6 +33,10 @@ pub data Every : List Example → Type 1 where
 abbrev pub builtinWith : Entry → ℕ × ℕ
 builtinWith e = let (number, table) = extended (tableOf builtin) e in (number, table .len)
 
+-- an offset of 19 from one threshold on, and 20 from another
+abbrev pub from : ℕ → ℕ → List Entry
+from a b = entry a (pos 19) ∷ entry b (pos 20) ∷ []
+
 -- with any week
 abbrev pub examples : ℕ → List Example
 examples week =
@@ -46,6 +52,29 @@ examples week =
     up glonassEpoch 0 is answered (757_371_600 * second) ∷
     utcToGps builtin (757_371_600 * second) is answered (504_478_810 * second) ∷
     glonassToGps builtin 0 is answered (504_478_810 * second) ∷
+    -- where Galileo and BeiDou begin
+    down gpsMinusGalileo (619_315_200 * second) is answered 0 ∷
+    down gpsMinusGalileo 619_315_199_999_999_999 is refused 1 ∷
+    shiftedToUtc gpsMinusGalileo builtin 0 is answered (872_207_987 * second) ∷
+    utcToShifted gpsMinusGalileo builtin (872_207_987 * second) is answered 0 ∷
+    utcToShifted gpsMinusGalileo builtin 872_207_986_999_999_999 is refused 1 ∷
+    shiftedToUtc gpsMinusBeidou builtin 0 is answered (1_073_001_600 * second) ∷
+    countAt (fields (pos 2006) 1 1 0 0 0 0) is answered (1_073_001_600 * second) ∷
+    -- BeiDou's epoch is a threshold: the first GPS count of that second lies before it, and the later one is taken
+    utcToGps builtin (1_073_001_600 * second) is answered (820_108_813 * second) ∷
+    utcToShifted gpsMinusBeidou builtin 1_073_001_599_999_999_999 is refused 1 ∷
+    utcToShifted gpsMinusBeidou builtin 1_073_001_600_000_000_000 is answered 0 ∷
+    utcToShifted gpsMinusBeidou builtin 1_073_001_600_000_000_001 is answered 1 ∷
+    utcToShifted gpsMinusBeidou builtin 1_073_001_600_999_999_999 is answered 999_999_999 ∷
+    utcToShifted gpsMinusBeidou builtin 1_073_001_601_000_000_000 is answered 1_000_000_000 ∷
+    glonassToShifted gpsMinusBeidou builtin (315_630_000 * second) is answered 0 ∷
+    -- by tables with that threshold: regular, and not, since it does not begin (0, 19)
+    utcToShifted gpsMinusBeidou (from 0 (820_108_833 * second)) (1_073_001_613 * second) is answered 0 ∷
+    utcToShifted gpsMinusBeidou (from 1 (820_108_833 * second)) (1_073_001_613 * second) is refused 1 ∷
+    -- by a threshold half a second before it: a later count that lies before the epoch too is not taken
+    utcToShifted gpsMinusBeidou (from 0 820_108_832_500_000_000) 1_073_001_612_500_000_000 is refused 1 ∷
+    utcToShifted gpsMinusBeidou (from 0 820_108_832_500_000_000) 1_073_001_612_999_999_999 is refused 1 ∷
+    utcToShifted gpsMinusBeidou (from 0 820_108_832_500_000_000) 1_073_001_613_000_000_000 is answered 0 ∷
     gpsToUtc [] 0 is answered (252_892_800 * second) ∷
     gpsToUtc (entry (100 * second) (pos 25) ∷ []) 0 is answered (252_892_794 * second) ∷
     builtinWith (entry 1_167_264_037_000_000_000 (pos 38)) is (3, 19) ∷

@@ -1,6 +1,6 @@
 -- Written by tools/write-scales from its template in tools/templates.
--- Demand 3 of the calls between UTC and a scale whose counts are those of GPS less a fixed number: TAI − the scale is 19 s
--- and that number. First for any such number, then of the calls of each scale, pair by pair.
+-- Demand 3 of the calls between UTC and a scale whose counts are those of GPS less a fixed number: TAI − the scale is
+-- 19 s and that number. First for any such number, then of the calls of each scale, pair by pair.
 use mathlib.Core.Path.{_≡_}
 use mathlib.Core.List.{List}
 use Prim.Native.Nat.{ℕ, _+_}
