@@ -2,26 +2,27 @@
 
 use crate::call::{prototype_of, Call, Named, Outcome, Written};
 use crate::images::{image, prepared, put_entries, table_in, words, IMAGE_BYTES};
-use crate::instants;
+use crate::instants::{self, with_epochs};
 use crate::lists::{self, entries_in, prepared_list};
 use crate::number::Number;
 use crate::original::{refusal_of, BAD_TABLE};
+use crate::shifted::{from_glonass, from_utc, to_glonass, to_utc};
 use gnss_time::{
-    glonass_to_gps, gps_to_glonass, gps_to_utc, utc_to_gps, Glonass, Gps, LeapEntry, LeapSecondsProvider,
-    RuntimeLeapSeconds, Time, TimeScale,
+    glonass_to_gps, gps_to_glonass, gps_to_utc, utc_to_gps, Beidou, Galileo, Glonass, Gps, LeapEntry,
+    LeapSecondsProvider, RuntimeLeapSeconds, Time, TimeScale,
 };
 
 /// An entry for a call that reads a table: `by_table!("name", (inputs before the image) table (inputs after it) ->
 /// (results), what the crate answers, tried on f, recorded on g)`, where the crate's side uses the inputs by name, and
-/// the crate's table as `table`. Where the image is no table, 8 is due; where the crate panics, since the offset is out
-/// of range, 9.
+/// the crate's table as `table`. The name may be given in parts. Where the image is no table, 8 is due; where the crate
+/// panics, since the offset is out of range, 9.
 macro_rules! by_table {
-    ($name:literal, ($($before:ident: $first:ty),*) $table:ident ($($after:ident: $then:ty),*)
+    ($($part:literal)+, ($($before:ident: $first:ty),*) $table:ident ($($after:ident: $then:ty),*)
         -> ($($result:ident: $written:ty),*), $original:expr,
         tried on $trials:path, recorded on $recorded:path) => {{
         use $crate::number::Place;
         extern "C" {
-            #[link_name = concat!("plaitgate_", $name)]
+            #[link_name = concat!("plaitgate_", $($part),+)]
             fn exported(
                 $($before: $first,)*
                 image: *const u8,
@@ -57,13 +58,14 @@ macro_rules! by_table {
                 spilled: false $(|| $result.spilled::<$written>())*,
             }
         }
+        const NAME: &str = concat!($($part),+);
         const RESULTS: &[Named] = &[$((stringify!($result), <$written>::KIND)),*];
         Call {
-            name: $name,
+            name: NAME,
             inputs: &[TABLE $(, (stringify!($before), <$first>::KIND))* $(, (stringify!($after), <$then>::KIND))*],
             results: RESULTS,
             prototype: prototype_of(
-                $name,
+                NAME,
                 &[
                     $((stringify!($before), <$first>::KIND.c_name),)*
                     ("*image", "const uint8_t"),
@@ -113,6 +115,32 @@ fn conversions() -> [Call; 6] {
         by_table!("table_gps_as_unix_seconds", (gps: u64) table () -> (seconds: i64), at::<Gps>(gps).as_unix_seconds(table),
             tried on instants::gps, recorded on instants::recorded_gps),
     ]
+}
+
+/// A shifted scale to UTC and GLONASS and back. `$tried` and `$recorded` are what its own counts are tried and recorded
+/// on.
+macro_rules! shifted_calls {
+    ($scale:ty, $name:literal, $count:ident, $tried:path, $recorded:path) => {
+        [
+            by_table!("table_" $name "_to_utc", ($count: u64) table () -> (utc: u64),
+                to_utc::<$scale>($count, table), tried on $tried, recorded on $recorded),
+            by_table!("table_utc_to_" $name, (utc: u64) table () -> ($count: u64),
+                from_utc::<$scale>(utc, table),
+                tried on with_epochs::utc, recorded on with_epochs::recorded_utc),
+            by_table!("table_" $name "_to_glonass", ($count: u64) table () -> (glonass: u64),
+                to_glonass::<$scale>($count, table), tried on $tried, recorded on $recorded),
+            by_table!("table_glonass_to_" $name, (glonass: u64) table () -> ($count: u64),
+                from_glonass::<$scale>(glonass, table),
+                tried on with_epochs::glonass, recorded on with_epochs::recorded_glonass),
+        ]
+    };
+}
+
+pub fn shifted() -> Vec<Call> {
+    use with_epochs::{beidou, galileo, recorded_beidou, recorded_galileo};
+    let mut calls = Vec::from(shifted_calls!(Galileo, "galileo", galileo, galileo, recorded_galileo));
+    calls.extend(shifted_calls!(Beidou, "beidou", beidou, beidou, recorded_beidou));
+    calls
 }
 
 fn readers() -> [Call; 6] {

@@ -6,10 +6,11 @@ use crate::by_table;
 use crate::call;
 use crate::call::Call;
 use crate::dates;
-use crate::instants;
+use crate::instants::{self, with_epochs};
+use crate::shifted::{converted, from_glonass, from_utc, to_glonass, to_utc};
 use gnss_time::{
-    glonass_to_gps, glonass_to_utc, gps_to_glonass, gps_to_utc, utc_to_glonass, utc_to_gps, CivilDate, CivilDateTime,
-    Duration, DurationParts, Glonass, Gps, LeapSeconds, LeapSecondsProvider, Tai, Time, Utc,
+    glonass_to_gps, glonass_to_utc, gps_to_glonass, gps_to_utc, utc_to_glonass, utc_to_gps, Beidou, CivilDate,
+    CivilDateTime, Duration, DurationParts, Galileo, Glonass, Gps, LeapSeconds, LeapSecondsProvider, Tai, Time, Utc,
 };
 
 /// The calls that every scale has.
@@ -42,12 +43,46 @@ macro_rules! scale_calls {
     };
 }
 
+/// The weeks of a scale. The crate has them for GPS alone: a week is the same arithmetic from any epoch.
+macro_rules! week_calls {
+    ($name:literal) => {
+        [
+            call!($name "_from_week_tow", (week: u32, seconds: u64, nanos: u32) -> (count: u64),
+                Time::<Gps>::from_week_tow(week, DurationParts { seconds, nanos })),
+            call!($name "_week", (count: u64) -> (week: u32), at::<Gps>(count).week()),
+            call!($name "_tow_seconds", (count: u64) -> (seconds: u32), at::<Gps>(count).tow_seconds()),
+            call!($name "_sub_second_nanos", (count: u64) -> (nanos: u32), at::<Gps>(count).sub_second_nanos()),
+        ]
+    };
+}
+
+/// A shifted scale to GPS, and to UTC and GLONASS by the built-in table, and back. `$tried` is what its own counts are
+/// tried on.
+macro_rules! shifted_calls {
+    ($scale:ty, $name:literal, $count:ident, $tried:path) => {
+        [
+            call!($name "_to_gps", ($count: u64) -> (gps: u64), converted::<$scale, Gps>($count), tried on $tried),
+            call!("gps_to_" $name, (gps: u64) -> ($count: u64), converted::<Gps, $scale>(gps),
+                tried on with_epochs::builtin_gps),
+            call!("builtin_" $name "_to_utc", ($count: u64) -> (utc: u64),
+                to_utc::<$scale>($count, LeapSeconds::builtin()), tried on $tried),
+            call!("builtin_utc_to_" $name, (utc: u64) -> ($count: u64),
+                from_utc::<$scale>(utc, LeapSeconds::builtin()), tried on with_epochs::builtin_utc),
+            call!("builtin_" $name "_to_glonass", ($count: u64) -> (glonass: u64),
+                to_glonass::<$scale>($count, LeapSeconds::builtin()), tried on $tried),
+            call!("builtin_glonass_to_" $name, (glonass: u64) -> ($count: u64),
+                from_glonass::<$scale>(glonass, LeapSeconds::builtin()), tried on with_epochs::builtin_glonass),
+        ]
+    };
+}
+
 pub fn calls() -> Vec<Call> {
     let mut calls = Vec::new();
     calls.extend(scale_calls!(Gps, "gps"));
     calls.extend(scale_calls!(Utc, "utc"));
     calls.extend(scale_calls!(Glonass, "glonass"));
     calls.extend(scale_calls!(Tai, "tai"));
+    calls.extend(week_calls!("gps"));
     calls.extend(gps_calls());
     calls.extend(glonass_calls());
     calls.extend(unix_calls());
@@ -58,6 +93,14 @@ pub fn calls() -> Vec<Call> {
     calls.extend(by_table::calls());
     calls.extend(by_list::calls());
     calls.push(event_call());
+    calls.extend(scale_calls!(Galileo, "galileo"));
+    calls.extend(scale_calls!(Beidou, "beidou"));
+    calls.extend(week_calls!("galileo"));
+    calls.extend(week_calls!("beidou"));
+    calls.extend(shifted_calls!(Galileo, "galileo", galileo, with_epochs::builtin_galileo));
+    calls.extend(shifted_calls!(Beidou, "beidou", beidou, with_epochs::builtin_beidou));
+    calls.extend(between_shifted());
+    calls.extend(by_table::shifted());
     calls
 }
 
@@ -65,13 +108,8 @@ fn at<S: gnss_time::TimeScale>(count: u64) -> Time<S> {
     Time::from_nanos(count)
 }
 
-fn gps_calls() -> [Call; 6] {
+fn gps_calls() -> [Call; 2] {
     [
-        call!("gps_from_week_tow", (week: u32, seconds: u64, nanos: u32) -> (count: u64),
-            Time::<Gps>::from_week_tow(week, DurationParts { seconds, nanos })),
-        call!("gps_week", (count: u64) -> (week: u32), at::<Gps>(count).week()),
-        call!("gps_tow_seconds", (count: u64) -> (seconds: u32), at::<Gps>(count).tow_seconds()),
-        call!("gps_sub_second_nanos", (count: u64) -> (nanos: u32), at::<Gps>(count).sub_second_nanos()),
         call!("gps_to_tai", (count: u64) -> (tai: u64), at::<Gps>(count).to_tai()),
         call!("gps_from_tai", (tai: u64) -> (count: u64), Time::<Gps>::from_tai(at::<Tai>(tai))),
     ]
@@ -171,6 +209,15 @@ fn builtin_calls() -> [Call; 9] {
             Time::<Gps>::from_unix_seconds(seconds, LeapSeconds::builtin()), tried on instants::builtin_unix),
         call!("builtin_gps_as_unix_seconds", (gps: u64) -> (seconds: i64),
             at::<Gps>(gps).as_unix_seconds(LeapSeconds::builtin()), tried on instants::builtin_gps),
+    ]
+}
+
+fn between_shifted() -> [Call; 2] {
+    [
+        call!("galileo_to_beidou", (galileo: u64) -> (beidou: u64), converted::<Galileo, Beidou>(galileo),
+            tried on with_epochs::builtin_galileo),
+        call!("beidou_to_galileo", (beidou: u64) -> (galileo: u64), converted::<Beidou, Galileo>(beidou),
+            tried on with_epochs::builtin_beidou),
     ]
 }
 

@@ -84,12 +84,12 @@ impl Tally {
 
 fn difference(call: &Call, inputs: &[i128], due: &Due, port: &Written) -> String {
     let inputs: Vec<String> = call.inputs.iter().zip(inputs).map(|((name, _), n)| format!("{name} = {n}")).collect();
-    let crate_says = match &due.written {
-        None => "panics, and no refusal stands for that".to_string(),
-        Some(written) if due.panicked => format!("panics, which stands for: {}", said(call, written)),
+    let due = match &due.written {
+        None => "nothing: the crate panics, and no refusal stands for that".to_string(),
+        Some(written) if due.panicked => format!("the crate panics, and the port {}", said(call, written)),
         Some(written) => said(call, written),
     };
-    format!("{}({})\n    the crate: {crate_says}\n    the port:  {}", call.name, inputs.join(", "), said(call, port))
+    format!("{}({})\n    due:      {due}\n    the port: {}", call.name, inputs.join(", "), said(call, port))
 }
 
 fn said(call: &Call, written: &Written) -> String {

@@ -14,7 +14,7 @@ pub fn count() -> usize {
 }
 
 fn sentences() -> Vec<(&'static str, bool)> {
-    [durations(), scales(), tables(), dates()].concat()
+    [durations(), scales(), shifted_counts(), shifted_conversions(), tables(), dates()].concat()
 }
 
 fn durations() -> Vec<(&'static str, bool)> {
@@ -40,6 +40,70 @@ fn scales() -> Vec<(&'static str, bool)> {
         ("try_convert to TAI is to_tai", Time::<Gps>::EPOCH.try_convert::<Tai>() == Time::<Gps>::EPOCH.to_tai()),
         ("try_convert of GPS to itself overflows", Time::<Gps>::from_nanos(first).try_convert::<Gps>().is_err()),
         ("try_convert does not a nanosecond before", Time::<Gps>::from_nanos(first - 1).try_convert::<Gps>().is_ok()),
+    ]
+}
+
+/// A count of whole seconds.
+fn at<S: TimeScale>(seconds: u64) -> Time<S> {
+    Time::from_nanos(seconds * 1_000_000_000)
+}
+
+fn shifted_counts() -> Vec<(&'static str, bool)> {
+    let (gps, galileo, beidou) = (at::<Gps>, at::<Galileo>, at::<Beidou>);
+    let to_beidou = IntoScale::<Beidou>::into_scale;
+    let overflow = Some(GnssTimeError::Overflow);
+    vec![
+        ("the Galileo count of GPS 0 is 0", gps(0).into_scale() == Ok(galileo(0))),
+        ("the GPS count of Galileo 0 is 0", galileo(0).into_scale() == Ok(gps(0))),
+        ("the BeiDou count of GPS 14 s is 0", gps(14).into_scale() == Ok(beidou(0))),
+        ("the GPS count of BeiDou 0 is 14 s", beidou(0).into_scale() == Ok(gps(14))),
+        ("the BeiDou count of Galileo 14 s is 0", galileo(14).into_scale() == Ok(beidou(0))),
+        ("Galileo 0 has no BeiDou count", to_beidou(galileo(0)).err() == overflow),
+        ("the Galileo count of BeiDou 0 is 14 s", beidou(0).into_scale() == Ok(galileo(14))),
+        ("at its epoch Galileo is 619315200 s", gps(619_315_200).into_scale() == Ok(galileo(619_315_200))),
+        ("at its epoch BeiDou is 820108800 s", gps(820_108_814).into_scale() == Ok(beidou(820_108_800))),
+        ("from GPS 18446744054709551616 on there is no Galileo", ends::<Gps, Galileo>(LAST_WITH_TAI)),
+        ("from there on there is no BeiDou", ends::<Gps, Beidou>(LAST_WITH_TAI)),
+        ("from Galileo 18446744054709551616 on there is no GPS", ends::<Galileo, Gps>(LAST_WITH_TAI)),
+        ("from there on there is no BeiDou either", ends::<Galileo, Beidou>(LAST_WITH_TAI)),
+        ("from BeiDou 18446744040709551616 on there is no GPS", ends::<Beidou, Gps>(LAST_WITH_TAI - 14_000_000_000)),
+        ("from there on there is no Galileo", ends::<Beidou, Galileo>(LAST_WITH_TAI - 14_000_000_000)),
+    ]
+}
+
+/// The last GPS count whose TAI count has 64 bits.
+const LAST_WITH_TAI: u64 = 18_446_744_054_709_551_615;
+
+/// Whether the count converts, and the next overflows.
+fn ends<S: TimeScale, T: TimeScale>(last: u64) -> bool
+where
+    Time<S>: IntoScale<T>,
+{
+    let [at_last, after] = [last, last + 1].map(|count| Time::<S>::from_nanos(count).into_scale());
+    at_last.is_ok() && after == Err(GnssTimeError::Overflow)
+}
+
+fn shifted_conversions() -> Vec<(&'static str, bool)> {
+    static HIGH: [LeapEntry; 1] = [LeapEntry::new(0, 252_892_801)];
+    static NOT_REGULAR: [LeapEntry; 2] = [LeapEntry::new(1, 19), LeapEntry::new(820_108_833_000_000_000, 20)];
+    let builtin = LeapSeconds::builtin();
+    let (high, not_regular) = (LeapSeconds::from_slice(&HIGH), LeapSeconds::from_slice(&NOT_REGULAR));
+    let (year_2006, above) = (at::<Utc>(1_073_001_600), Time::<Utc>::from_nanos(18_446_744_072_709_551_616));
+    let overflow = Some(GnssTimeError::Overflow);
+    vec![
+        ("UTC 252892800 s is Galileo 0", utc_to_galileo(at(252_892_800), builtin) == Ok(at(0))),
+        ("UTC 252892814 s is BeiDou 0", utc_to_beidou(at(252_892_814), builtin) == Ok(at(0))),
+        ("2006-01-01 is BeiDou 820108799 s", utc_to_beidou(year_2006, builtin) == Ok(at(820_108_799))),
+        ("so is GLONASS 315630000 s", glonass_to_beidou(at(315_630_000), builtin) == Ok(at(820_108_799))),
+        ("BeiDou 820108799 s is 2006-01-01", beidou_to_utc(at(820_108_799), builtin) == Ok(year_2006)),
+        ("so is the epoch, BeiDou 820108800 s", beidou_to_utc(at(820_108_800), builtin) == Ok(year_2006)),
+        ("by a table from 1 ns on UTC 1073001613 s is BeiDou 820108799 s", {
+            utc_to_beidou(at(1_073_001_613), &not_regular) == Ok(at(820_108_799))
+        }),
+        ("the epoch is that UTC count too", beidou_to_utc(at(820_108_800), &not_regular) == Ok(at(1_073_001_613))),
+        ("a UTC count beyond TAI has a GPS count", utc_to_gps(above, &high) == Ok(Time::from_nanos(LAST_WITH_TAI + 1))),
+        ("it has no Galileo count", utc_to_galileo(above, &high).err() == overflow),
+        ("it has no BeiDou count", utc_to_beidou(above, &high).err() == overflow),
     ]
 }
 

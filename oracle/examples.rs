@@ -13,6 +13,10 @@ const LAST: i128 = u64::MAX as i128;
 const UTC_TO_GPS: i128 = 252_892_800 * SECOND;
 /// The last threshold of the built-in table.
 const YEAR_2017: i128 = 1_167_264_037 * SECOND;
+/// The GPS counts at the epochs of Galileo and BeiDou, and the UTC count of 2006-01-01.
+const GALILEO: i128 = 619_315_200 * SECOND;
+const BEIDOU: i128 = 820_108_814 * SECOND;
+const YEAR_2006: i128 = 1_073_001_600 * SECOND;
 const HIGH: i128 = 18_000_000_000 * SECOND;
 
 const EXAMPLES: &[Example] = &[
@@ -72,11 +76,55 @@ const EXAMPLES: &[Example] = &[
     ("table_gps_to_utc", &[TOO_LONG, LAST], Err(8)),
     ("table_utc_to_gps", &[SHORT, 0], Err(8)),
     ("table_gps_from_unix_seconds", &[SHORT, 0], Err(8)),
+    // where Galileo and BeiDou begin, and where GPS ends
+    ("galileo_to_gps", &[0], Ok(&[GALILEO])),
+    ("gps_to_galileo", &[GALILEO], Ok(&[0])),
+    ("gps_to_galileo", &[GALILEO - 1], Err(1)),
+    ("galileo_to_gps", &[LAST - GALILEO], Ok(&[LAST])),
+    ("galileo_to_gps", &[LAST - GALILEO + 1], Err(1)),
+    ("beidou_to_gps", &[0], Ok(&[BEIDOU])),
+    ("gps_to_beidou", &[BEIDOU - 1], Err(1)),
+    ("gps_to_beidou", &[LAST], Ok(&[LAST - BEIDOU])),
+    ("beidou_to_gps", &[LAST - BEIDOU + 1], Err(1)),
+    ("beidou_to_galileo", &[0], Ok(&[200_793_614 * SECOND])),
+    ("galileo_to_beidou", &[200_793_614 * SECOND], Ok(&[0])),
+    ("galileo_to_beidou", &[200_793_614 * SECOND - 1], Err(1)),
+    ("galileo_to_beidou", &[LAST - GALILEO], Ok(&[LAST - BEIDOU])),
+    ("beidou_to_galileo", &[LAST - BEIDOU], Ok(&[LAST - GALILEO])),
+    ("builtin_galileo_to_utc", &[0], Ok(&[872_207_987 * SECOND])),
+    ("builtin_utc_to_galileo", &[872_207_987 * SECOND], Ok(&[0])),
+    ("builtin_utc_to_galileo", &[872_207_987 * SECOND - 1], Err(1)),
+    ("builtin_galileo_to_glonass", &[0], Ok(&[114_836_387 * SECOND])),
+    ("builtin_glonass_to_galileo", &[114_836_387 * SECOND], Ok(&[0])),
+    ("builtin_beidou_to_utc", &[0], Ok(&[YEAR_2006])),
+    ("builtin_beidou_to_glonass", &[0], Ok(&[315_630_000 * SECOND])),
+    ("table_galileo_to_utc", &[EMPTY, 0], Ok(&[872_208_000 * SECOND])),
+    // the second inserted before 2006 is not in BeiDou, the one after it is; one inserted earlier is out of reach
+    ("builtin_utc_to_beidou", &[YEAR_2006 - 1], Err(1)),
+    ("builtin_utc_to_beidou", &[YEAR_2006], Ok(&[0])),
+    ("builtin_utc_to_beidou", &[YEAR_2006 + SECOND - 1], Ok(&[SECOND - 1])),
+    ("builtin_utc_to_beidou", &[YEAR_2006 + SECOND], Ok(&[SECOND])),
+    ("builtin_utc_to_beidou", &[299_721_600 * SECOND], Err(1)),
+    ("builtin_glonass_to_beidou", &[315_630_000 * SECOND], Ok(&[0])),
+    ("builtin_glonass_to_beidou", &[315_630_000 * SECOND - 1], Err(1)),
+    ("table_utc_to_beidou", &[BUILTIN, YEAR_2006], Ok(&[0])),
+    ("table_utc_to_beidou", &[BUILTIN, 299_721_600 * SECOND], Err(1)),
+    ("table_glonass_to_beidou", &[BUILTIN, 315_630_000 * SECOND], Ok(&[0])),
+    // no table, though the count has no GPS count or no UTC count
+    ("table_galileo_to_utc", &[TOO_LONG, LAST], Err(8)),
+    ("table_beidou_to_glonass", &[SHORT, LAST], Err(8)),
+    ("table_utc_to_galileo", &[SHORT, 0], Err(8)),
+    ("table_glonass_to_beidou", &[TOO_LONG, LAST], Err(8)),
+    ("table_utc_to_galileo", &[LEAST, UTC_TO_GPS], Err(9)),
     // counts and dates
     ("utc_to_civil", &[LAST], Ok(&[2556, 7, 20, 23, 34, 33, 709_551_615])),
     ("civil_to_utc", &[1972, 1, 1, 255, 0, 0, 0], Ok(&[918_000 * SECOND])),
     ("gps_from_week_tow", &[30_500, 344_073, 709_551_615], Ok(&[LAST])),
     ("gps_from_week_tow", &[30_500, 344_073, 709_551_616], Err(1)),
+    ("galileo_from_week_tow", &[1, 0, 0], Ok(&[604_800 * SECOND])),
+    ("galileo_week", &[604_800 * SECOND - 1], Ok(&[0])),
+    ("beidou_from_week_tow", &[30_500, 344_073, 709_551_615], Ok(&[LAST])),
+    ("beidou_tow_seconds", &[LAST], Ok(&[344_073])),
     ("gps_from_week_tow", &[0, 604_800, 0], Err(2)),
     ("gps_from_week_tow", &[30_501, 604_800, 0], Err(2)),
     ("gps_from_week_tow", &[u32::MAX as i128, 604_800, 0], Err(2)),

@@ -2,7 +2,8 @@
 //! among its inputs that picks one of the tables prepared here.
 
 use crate::chance::Chance;
-use gnss_time::{LeapEntry, LeapSeconds, RuntimeLeapSeconds, RUNTIME_CAPACITY};
+use crate::shifted::Shifted;
+use gnss_time::{Beidou, Galileo, LeapEntry, LeapSeconds, RuntimeLeapSeconds, RUNTIME_CAPACITY};
 use std::sync::OnceLock;
 
 pub const IMAGE_BYTES: usize = 776;
@@ -12,7 +13,9 @@ const OFFSETS_AT: usize = THRESHOLDS_AT + 8 * RUNTIME_CAPACITY;
 const SECOND: u64 = 1_000_000_000;
 const DAY: u64 = 86_400 * SECOND;
 /// The least offset that a conversion can use.
-const LEAST_USABLE: i32 = i32::MIN + 19;
+pub const LEAST_USABLE: i32 = i32::MIN + 19;
+/// The TAI readings of the epochs of Galileo and BeiDou.
+const EPOCHS: [u64; 2] = [(Galileo::BEHIND_GPS_SECONDS + 19) * SECOND, (Beidou::BEHIND_GPS_SECONDS + 19) * SECOND];
 
 /// The numbers of the tables that the recorded list is made with, which `crates/replay` builds for itself.
 pub const EMPTY: i128 = 0;
@@ -62,14 +65,17 @@ pub fn prepare(seed: u64) {
         images.push(vec![0; IMAGE_BYTES - 1]);
         images.extend(notable_tables().iter().map(|entries| image(entries)));
         images.extend(notable_forgeries());
+        images.extend(epoch_tables().iter().map(|entries| image(entries)));
         NOTABLE.get_or_init(|| images.len());
         let mut chance = Chance::of("tables", seed);
         images.extend((0..RANDOM).map(|place| random_image(place, &mut chance)));
+        images.extend((0..RANDOM_AT_EPOCHS).map(|place| image(&random_at_epoch(place, &mut chance))));
         images.iter().map(|bytes| Prepared::new(bytes)).collect()
     });
 }
 
 const RANDOM: usize = 2_400;
+const RANDOM_AT_EPOCHS: usize = 600;
 static NOTABLE: OnceLock<usize> = OnceLock::new();
 
 /// How many there are, and how many of them are not random.
@@ -127,6 +133,38 @@ fn notable_tables() -> Vec<Vec<LeapEntry>> {
         tables.push(row(7 * SECOND, 3 * SECOND, offset, count));
     }
     tables
+}
+
+/// Tables with a threshold at the epoch of Galileo or BeiDou, or up to a second and a nanosecond from it.
+fn epoch_tables() -> Vec<Vec<LeapEntry>> {
+    let distances = [SECOND + 1, SECOND, SECOND - 1, SECOND / 2, 1, 0];
+    let thresholds = |epoch: u64| distances.into_iter().flat_map(move |far| [epoch - far, epoch + far]);
+    let mut thresholds: Vec<u64> = EPOCHS.into_iter().flat_map(thresholds).collect();
+    thresholds.dedup();
+    thresholds.into_iter().flat_map(tables_with).collect()
+}
+
+/// Tables with a threshold: regular ones, and valid ones that are not.
+fn tables_with(threshold: u64) -> Vec<Vec<LeapEntry>> {
+    let rising = |offset: i32, thresholds: &[u64]| {
+        thresholds.iter().zip(offset..).map(|(tai_nanos, offset)| LeapEntry::new(*tai_nanos, offset)).collect()
+    };
+    vec![
+        rising(19, &[0, threshold]),
+        // exactly a day apart, and a nanosecond less, which is not regular
+        rising(19, &[0, DAY, threshold]),
+        rising(19, &[0, DAY - 1, threshold]),
+        rising(19, &[0, threshold - DAY, threshold]),
+        rising(19, &[0, threshold - DAY + 1, threshold]),
+        rising(19, &[0, threshold, threshold + DAY]),
+        rising(19, &[0, threshold, threshold + DAY - 1]),
+        // another first entry
+        rising(18, &[0, threshold]),
+        rising(20, &[0, threshold]),
+        rising(19, &[1, threshold]),
+        rising(19, &[threshold - DAY, threshold]),
+        rising(19, &[threshold]),
+    ]
 }
 
 /// Images of every kind that hold no table, and two that hold one and more after it.
@@ -199,6 +237,24 @@ fn random_row(chance: &mut Chance, mut entries: Vec<LeapEntry>, least_gap: u64) 
         entries.clear();
     }
     entries
+}
+
+/// A table with a threshold within 3 s of an epoch. Of each three: one regular, one that begins alike and may have
+/// thresholds nearer than a day, and one with another first entry.
+fn random_at_epoch(place: usize, chance: &mut Chance) -> Vec<LeapEntry> {
+    let epoch = EPOCHS[chance.below(2) as usize];
+    let threshold = (i128::from(epoch) + chance.of_length_up_to(31)) as u64;
+    let (first, least_gap) = match place % 3 {
+        0 => (LeapEntry::new(0, 19), DAY),
+        1 => (LeapEntry::new(0, 19), 1),
+        _ => (LeapEntry::new(chance.below(DAY), chance.within(-50, 50) as i32), 1),
+    };
+    let mut entries = random_row(chance, vec![first], least_gap);
+    entries.retain(|entry| entry.tai_nanos <= threshold - least_gap);
+    entries.truncate(RUNTIME_CAPACITY - 1);
+    let offset = entries.last().map_or(19, |last| last.tai_minus_utc + 1);
+    entries.push(LeapEntry::new(threshold, offset));
+    random_row(chance, entries, least_gap)
 }
 
 /// A valid table with one number of it changed, which may leave it valid.

@@ -4,6 +4,7 @@ use crate::call::Named;
 use crate::chance::Chance;
 use crate::images::{self, prepared, BUILTIN};
 use crate::inputs::{numbers, Group, Trials};
+use crate::shifted::Shifted;
 use gnss_time::LeapEntry;
 
 const SECOND: i128 = 1_000_000_000;
@@ -13,6 +14,9 @@ const UTC_TO_GPS: i128 = 252_892_800 * SECOND;
 const UTC_TO_GLONASS: i128 = 757_371_600 * SECOND;
 const UNIX_TO_UTC_SECONDS: i128 = 63_072_000;
 const TAI_MINUS_GPS_SECONDS: i128 = 19;
+/// From the GPS epoch to those of Galileo and BeiDou.
+const GPS_TO_GALILEO: i128 = <gnss_time::Galileo as Shifted>::BEHIND_GPS_SECONDS as i128 * SECOND;
+const GPS_TO_BEIDOU: i128 = <gnss_time::Beidou as Shifted>::BEHIND_GPS_SECONDS as i128 * SECOND;
 /// How far from a mark the counts in order lie.
 const AROUND: [i128; 9] = [-SECOND - 1, -SECOND, -SECOND + 1, -1, 0, 1, SECOND - 1, SECOND, SECOND + 1];
 
@@ -22,13 +26,18 @@ enum Scale {
     Gps,
     Utc,
     Glonass,
+    Galileo,
+    Beidou,
     /// In seconds.
     Unix,
 }
 
-use Scale::{Glonass, Gps, Tai, Unix, Utc};
+use Scale::{Beidou, Galileo, Glonass, Gps, Tai, Unix, Utc};
 
-const SCALES_OF_COUNTS: [Scale; 4] = [Tai, Gps, Utc, Glonass];
+/// The scales at whose ends counts lie: all of them for the conversions from and to Galileo and BeiDou, and for the
+/// others the four that they are recorded with.
+const SCALES_OF_COUNTS: &[Scale] = &[Tai, Gps, Utc, Glonass, Galileo, Beidou];
+const FIRST_SCALES: &[Scale] = &[Tai, Gps, Utc, Glonass];
 
 impl Scale {
     /// Where a count of this scale is 0, as a UTC count, while TAI minus UTC is `offset`.
@@ -38,6 +47,8 @@ impl Scale {
             Gps => UTC_TO_GPS - (offset - TAI_MINUS_GPS_SECONDS) * SECOND,
             Utc => 0,
             Glonass => UTC_TO_GLONASS,
+            Galileo => Gps.epoch(offset) + GPS_TO_GALILEO,
+            Beidou => Gps.epoch(offset) + GPS_TO_BEIDOU,
             Unix => -UNIX_TO_UTC_SECONDS * SECOND,
         }
     }
@@ -61,8 +72,8 @@ impl Scale {
     }
 
     /// The numbers at which answers by a table may change, and those around them.
-    fn edges(self, entries: &[LeapEntry]) -> Vec<i128> {
-        let mut edges: Vec<i128> = marks(entries)
+    fn edges(self, entries: &[LeapEntry], scales: &[Scale]) -> Vec<i128> {
+        let mut edges: Vec<i128> = marks(entries, scales)
             .into_iter()
             .flat_map(|(utc, offset)| AROUND.map(|distance| self.at(utc + distance, offset)))
             .filter(|number| self.holds(*number))
@@ -76,8 +87,8 @@ impl Scale {
     }
 
     /// A number near a mark of a table, or any.
-    fn draw(self, chance: &mut Chance, entries: &[LeapEntry]) -> i128 {
-        let (utc, offset) = draw_mark(chance, entries);
+    fn draw(self, chance: &mut Chance, entries: &[LeapEntry], scales: &[Scale]) -> i128 {
+        let (utc, offset) = draw_mark(chance, entries, scales);
         let distance = match chance.below(3) {
             0 => AROUND[chance.below(AROUND.len() as u64) as usize],
             1 => chance.of_length_up_to(33),
@@ -90,11 +101,24 @@ impl Scale {
             i128::from(chance.next()) >> (1 + chance.below(40))
         }
     }
+
+    /// At the epoch of a shifted scale the offset in force, and one less and one more, which may be in force a second
+    /// before or after it; of another scale none.
+    fn offsets_at_epoch(self, entries: &[LeapEntry]) -> Vec<i128> {
+        if FIRST_SCALES.contains(&self) {
+            return vec![];
+        }
+        let reading = self.epoch(0) - Tai.epoch(0);
+        let in_force = entries.iter().rfind(|entry| i128::from(entry.tai_nanos) <= reading).or(entries.first());
+        let offset = in_force.map_or(TAI_MINUS_GPS_SECONDS, |entry| i128::from(entry.tai_minus_utc));
+        vec![offset - 1, offset, offset + 1]
+    }
 }
 
 /// UTC counts, each with an offset to read it by: at each threshold the offsets before it and from it on, and the ends
-/// and the middle of each scale by the first offset, the last, and 19.
-fn marks(entries: &[LeapEntry]) -> Vec<(i128, i128)> {
+/// and the middle of each scale by the first offset, the last, and 19; the epochs of shifted scales also by those in
+/// force there.
+fn marks(entries: &[LeapEntry], scales: &[Scale]) -> Vec<(i128, i128)> {
     let mut marks = Vec::new();
     for entry in entries {
         let offset = i128::from(entry.tai_minus_utc);
@@ -104,15 +128,20 @@ fn marks(entries: &[LeapEntry]) -> Vec<(i128, i128)> {
     }
     let ends = entries.first().into_iter().chain(entries.last()).map(|entry| i128::from(entry.tai_minus_utc));
     for offset in ends.chain([TAI_MINUS_GPS_SECONDS]) {
-        for scale in SCALES_OF_COUNTS {
+        for scale in scales {
             marks.extend([0, 1 << 63, GREATEST].map(|count| (count + scale.epoch(offset), offset)));
         }
+    }
+    for scale in scales {
+        let offsets = scale.offsets_at_epoch(entries);
+        marks.extend(offsets.into_iter().map(|offset| (scale.epoch(offset), offset)));
     }
     marks
 }
 
-/// One such mark: at a threshold, or at an end of a scale by any offset of the table.
-fn draw_mark(chance: &mut Chance, entries: &[LeapEntry]) -> (i128, i128) {
+/// One such mark: at a threshold, or at an end of a scale by any offset of the table; the epoch of a shifted scale by
+/// one in force there.
+fn draw_mark(chance: &mut Chance, entries: &[LeapEntry], scales: &[Scale]) -> (i128, i128) {
     let (threshold, offset) = match entries.len() {
         0 => (0, TAI_MINUS_GPS_SECONDS),
         many => {
@@ -120,63 +149,86 @@ fn draw_mark(chance: &mut Chance, entries: &[LeapEntry]) -> (i128, i128) {
             (i128::from(entry.tai_nanos), i128::from(entry.tai_minus_utc) - chance.within(0, 1))
         }
     };
-    let scale = SCALES_OF_COUNTS[chance.below(4) as usize];
+    let scale = scales[chance.below(scales.len() as u64) as usize];
+    let at_epoch = scale.offsets_at_epoch(entries);
     match chance.below(6) {
-        0 => (scale.epoch(offset), offset),
+        0 if at_epoch.is_empty() => (scale.epoch(offset), offset),
+        0 => {
+            let offset = chance.one_of(&at_epoch);
+            (scale.epoch(offset), offset)
+        }
         1 => (GREATEST + scale.epoch(offset), offset),
         _ => (threshold + Tai.epoch(offset), offset),
     }
 }
 
 /// A table and a count of a scale: the notable tables with all their edges, then random ones.
-fn by_table(scale: Scale, tables: usize, random: usize) -> Trials {
+fn by_table(scale: Scale, scales: &'static [Scale], tables: usize, random: usize) -> Trials {
     let in_order = |table: usize| {
-        let edges = scale.edges(prepared(table as i128).entries());
+        let edges = scale.edges(prepared(table as i128).entries(), scales);
         Group::new(edges.len(), move |place| vec![table as i128, edges[place]])
     };
     Trials {
         groups: (0..tables).map(in_order).collect(),
         draw: Box::new(move |chance| {
             let table = chance.below(random as u64).into();
-            vec![table, scale.draw(chance, prepared(table).entries())]
+            vec![table, scale.draw(chance, prepared(table).entries(), scales)]
         }),
     }
 }
 
 /// A count of a scale for the built-in table: its edges among those of the type.
-fn by_builtin(scale: Scale, inputs: &'static [Named]) -> Trials {
+fn by_builtin(scale: Scale, scales: &'static [Scale], inputs: &'static [Named]) -> Trials {
     let entries = prepared(BUILTIN).entries();
-    let edges = scale.edges(entries);
+    let edges = scale.edges(entries, scales);
     let Trials { mut groups, draw } = numbers(inputs);
     groups.push(Group::new(edges.len(), move |place| vec![edges[place]]));
     let draw = move |chance: &mut Chance| match chance.below(2) {
         0 => draw(chance),
-        _ => vec![scale.draw(chance, entries)],
+        _ => vec![scale.draw(chance, entries, scales)],
     };
     Trials { groups, draw: Box::new(draw) }
 }
 
 macro_rules! trials {
-    ($($scale:ident: $with_table:ident, $recorded:ident, $with_builtin:ident;)*) => {$(
+    ($scales:ident; $($scale:ident: $with_table:ident, $recorded:ident, $with_builtin:ident;)*) => {$(
         pub fn $with_table(_: &'static [Named]) -> Trials {
-            by_table($scale, images::notable(), images::all())
+            by_table($scale, $scales, images::notable(), images::all())
         }
         /// Only the tables of the recorded list.
         pub fn $recorded(_: &'static [Named]) -> Trials {
-            by_table($scale, images::RECORDED, images::RECORDED)
+            by_table($scale, $scales, images::RECORDED, images::RECORDED)
         }
         pub fn $with_builtin(inputs: &'static [Named]) -> Trials {
-            by_builtin($scale, inputs)
+            by_builtin($scale, $scales, inputs)
         }
     )*};
 }
 
 trials! {
+    FIRST_SCALES;
     Tai: tai, recorded_tai, builtin_tai;
     Gps: gps, recorded_gps, builtin_gps;
     Utc: utc, recorded_utc, builtin_utc;
     Glonass: glonass, recorded_glonass, builtin_glonass;
     Unix: unix, recorded_unix, builtin_unix;
+}
+
+/// For the conversions from and to Galileo and BeiDou: counts around their epochs and ends too.
+pub mod with_epochs {
+    use super::*;
+
+    pub fn builtin_gps(inputs: &'static [Named]) -> Trials {
+        by_builtin(Gps, SCALES_OF_COUNTS, inputs)
+    }
+
+    trials! {
+        SCALES_OF_COUNTS;
+        Utc: utc, recorded_utc, builtin_utc;
+        Glonass: glonass, recorded_glonass, builtin_glonass;
+        Galileo: galileo, recorded_galileo, builtin_galileo;
+        Beidou: beidou, recorded_beidou, builtin_beidou;
+    }
 }
 
 /// A table and no more: each of them.

@@ -20,6 +20,7 @@ mod number;
 mod original;
 mod questions;
 mod record;
+mod shifted;
 mod slips;
 
 use std::collections::BTreeMap;
@@ -93,6 +94,7 @@ fn run(calls: &[call::Call], seed: u64, count: u64) -> ExitCode {
     let mut comparisons = 0;
     let mut differences = 0;
     let mut refusals: BTreeMap<u32, u64> = BTreeMap::new();
+    shifted::laters_met(); // by the recorded list and the examples
     for call in calls {
         let tally = compare::compare(call, seed, count);
         let refused: u64 = tally.refusals.values().sum();
@@ -116,6 +118,12 @@ fn run(calls: &[call::Call], seed: u64, count: u64) -> ExitCode {
         return failed("the crate's InvalidInput did not come for both fields");
     }
     println!("oracle: the crate's InvalidInput: {seconds} times for the seconds (2), {nanos} for the nanoseconds (11)");
+    for (sentence, all_came) in shifted::laters_met() {
+        println!("oracle: {sentence}");
+        if !all_came {
+            return failed("a later count was not met in each of the three ways");
+        }
+    }
     println!("oracle: {} examples, answered alike by both", examples::COUNT);
     println!("oracle: {} slips, each wrong where the port is right", slips::COUNT);
     println!("oracle: {} sentences of docs/DIFFERENCES.md, true of the crate", differences::count());

@@ -77,6 +77,7 @@ pub fn recorded(calls: &[Call]) -> String {
 fn legend(asked: &[Asked]) -> String {
     let mut legend = format!(
         "# Answers of the crate gnss-time 0.9.1, made by: oracle/run --record FILE (seed {SEED})\n\
+         # Those for Galileo and BeiDou are moved to the port's counts (oracle/README.md).\n\
          # A line: the question's number, its inputs, the number of the refusal (0: answered), the results.\n\
          # The questions, with their inputs and results:\n"
     );

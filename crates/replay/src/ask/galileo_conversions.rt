@@ -32,12 +32,16 @@ pub fn by_builtin(call: u64, q: Question) -> Reply {
 pub fn by_table(call: u64, q: Question) -> Reply {
     let mut image = [0u8; 776];
     numbered::put(q.x, &mut image);
+    by_image(call, q.y, &image)
+}
+
+fn by_image(call: u64, count: u64, image: &[u8; 776]) -> Reply {
     let mut a: u64 = 1;
     let number = match call {
-        1 => plaitgate_table_galileo_to_utc(q.y, &image, &mut a),
-        2 => plaitgate_table_utc_to_galileo(q.y, &image, &mut a),
-        3 => plaitgate_table_galileo_to_glonass(q.y, &image, &mut a),
-        _ => plaitgate_table_glonass_to_galileo(q.y, &image, &mut a),
+        1 => plaitgate_table_galileo_to_utc(count, image, &mut a),
+        2 => plaitgate_table_utc_to_galileo(count, image, &mut a),
+        3 => plaitgate_table_galileo_to_glonass(count, image, &mut a),
+        _ => plaitgate_table_glonass_to_galileo(count, image, &mut a),
     };
     Reply::one(number, a)
 }
