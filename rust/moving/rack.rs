@@ -3,10 +3,11 @@
 //! "The same text".
 
 use clock::{
-    glonass_to_gps, glonass_to_utc, gps_to_glonass, gps_to_utc, utc_to_glonass, utc_to_gps, CivilDate, CivilDateTime,
-    Duration, DurationParts, Glonass, GnssTimeError, Gps, LeapEntry, LeapExtendError, LeapSeconds, LeapSecondsProvider,
-    RuntimeLeapSeconds, Tai, Time, Utc, BEIDOU_EPOCH, GALILEO_EPOCH, GLONASS_EPOCH, GPS_EPOCH, GPS_EPOCH_UNIX_S,
-    RUNTIME_CAPACITY, TAI_EPOCH, UNIX_EPOCH, UTC_CIVIL_EPOCH, UTC_EPOCH_UNIX_OFFSET_NS, UTC_EPOCH_UNIX_OFFSET_S,
+    glonass_to_gps, glonass_to_utc, gps_to_glonass, gps_to_utc, utc_to_glonass, utc_to_gps, Beidou, CivilDate,
+    CivilDateTime, Duration, DurationParts, Galileo, Glonass, GnssTimeError, Gps, LeapEntry, LeapExtendError,
+    LeapSeconds, LeapSecondsProvider, RuntimeLeapSeconds, Tai, Time, Utc, BEIDOU_EPOCH, GALILEO_EPOCH, GLONASS_EPOCH,
+    GPS_EPOCH, GPS_EPOCH_UNIX_S, RUNTIME_CAPACITY, TAI_EPOCH, UNIX_EPOCH, UTC_CIVIL_EPOCH, UTC_EPOCH_UNIX_OFFSET_NS,
+    UTC_EPOCH_UNIX_OFFSET_S,
 };
 
 /// A refusal as both crates can say it: that of gnss-time carries a text in one case.
@@ -152,6 +153,8 @@ fn main() -> Result<(), LeapExtendError> {
         sums!(Utc, count);
         sums!(Glonass, count);
         sums!(Tai, count);
+        sums!(Galileo, count);
+        sums!(Beidou, count);
         durations(count as i64);
         weeks_and_days(count);
         unix_and_civil(count);

@@ -176,8 +176,8 @@ impl Duration {
 
 /// Whole seconds, and nanoseconds of a second, as a time of a week or a day is given.
 ///
-/// The fields are public, and any numbers may be in them: [`Gps::from_week_tow`](crate::Gps::from_week_tow) and
-/// [`Glonass::from_day_tod`](crate::Glonass::from_day_tod) test them.
+/// The fields are public, and any numbers may be in them: [`Gps::from_week_tow`](crate::Gps::from_week_tow) and its
+/// like, and [`Glonass::from_day_tod`](crate::Glonass::from_day_tod), test them.
 #[derive(Debug, Clone, Copy, PartialEq, Eq, Hash, Default)]
 pub struct DurationParts {
     pub seconds: u64,

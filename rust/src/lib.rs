@@ -1,7 +1,7 @@
-//! GPS, UTC, GLONASS and TAI counts into each other, into Unix time, into weeks, days and civil dates, for hosts in
-//! Rust. The work is done by Plaitgate's library, every function of which is proved against its contract; this crate
-//! gives its calls the names and shapes they have in gnss-time. It computes one thing itself, by `core`'s checked
-//! arithmetic: the units and sums of a [`Duration`].
+//! GPS, UTC, GLONASS, TAI, Galileo and BeiDou counts into each other, into Unix time, into weeks, days and civil dates,
+//! for hosts in Rust. The work is done by Plaitgate's library, every function of which is proved against its contract;
+//! this crate gives its calls the names and shapes they have in gnss-time. It computes one thing itself, by `core`'s
+//! checked arithmetic: the units and sums of a [`Duration`].
 //!
 //! Every call is total: any input gets an answer or a refusal. A refusal is an [`Error`], which has a number, or `None`
 //! where gnss-time has it so. No call panics.
@@ -39,10 +39,12 @@ mod glonass;
 mod gps;
 mod list;
 mod scale;
+mod shifted;
 #[allow(unsafe_code)]
 mod sys;
 mod table;
 mod utc;
+mod weeks;
 
 pub use civil::{CivilDate, CivilDateTime};
 pub use convert::{glonass_to_gps, glonass_to_utc, gps_to_glonass, gps_to_utc, utc_to_glonass, utc_to_gps};
@@ -50,7 +52,9 @@ pub use duration::{Duration, DurationParts};
 pub use epoch::*;
 pub use error::{Error, Result};
 pub use list::LeapList;
-pub use scale::{Glonass, Gps, Tai, Utc};
+pub use scale::{Beidou, Galileo, Glonass, Gps, Tai, Utc};
+pub use shifted::{beidou_to_glonass, beidou_to_utc, glonass_to_beidou, utc_to_beidou};
+pub use shifted::{galileo_to_glonass, galileo_to_utc, glonass_to_galileo, utc_to_galileo};
 pub use table::{LeapEntry, LeapSeconds, LeapSecondsProvider, LeapTable, RUNTIME_CAPACITY};
 
 /// gnss-time's name of a count of the scale `S`: `Time<Gps>` is [`Gps`].

@@ -184,6 +184,42 @@ scale! {
     tai_saturating_add, tai_saturating_sub_duration, tai_checked_elapsed, tai_limits
 }
 
+scale! {
+    /// Nanoseconds since 1999-08-22 on the clock of GPS: the GPS count less 619,315,200 s, which is 1,024 weeks.
+    ///
+    /// ```
+    /// use plaitgate::{DurationParts, Galileo, Gps};
+    ///
+    /// let tow = DurationParts { seconds: 432_000, nanos: 0 };
+    /// assert_eq!(Galileo::from_week_tow(1321, tow)?.to_gps()?, Gps::from_week_tow(2345, tow)?);
+    /// # Ok::<(), plaitgate::Error>(())
+    /// ```
+    ///
+    /// In gnss-time a Galileo count is the GPS count itself: docs/MOVING.md says how such counts are moved.
+    Galileo, by galileo_checked_from_seconds, galileo_as_seconds, galileo_as_parts, galileo_checked_add,
+    galileo_checked_sub_duration, galileo_saturating_add, galileo_saturating_sub_duration, galileo_checked_elapsed,
+    galileo_limits
+}
+
+scale! {
+    /// Nanoseconds since 2006-01-01 in UTC, leap seconds counted: the GPS count less 820,108,814 s, which is 1,356
+    /// weeks and 14 s.
+    ///
+    /// ```
+    /// use plaitgate::{Beidou, CivilDateTime};
+    ///
+    /// let new_year = CivilDateTime { year: 2006, month: 1, day: 1, hour: 0, minute: 0, second: 0, nanos: 0 };
+    /// assert_eq!(new_year.to_utc()?.to_beidou()?, Beidou::EPOCH);
+    /// assert_eq!(Beidou::EPOCH.to_utc()?.to_civil(), new_year);
+    /// # Ok::<(), plaitgate::Error>(())
+    /// ```
+    ///
+    /// In gnss-time a BeiDou count is the GPS count less 14 s: docs/MOVING.md says how such counts are moved.
+    Beidou, by beidou_checked_from_seconds, beidou_as_seconds, beidou_as_parts, beidou_checked_add,
+    beidou_checked_sub_duration, beidou_saturating_add, beidou_saturating_sub_duration, beidou_checked_elapsed,
+    beidou_limits
+}
+
 #[cfg(test)]
 mod tests {
     use super::*;
@@ -191,5 +227,6 @@ mod tests {
     #[test]
     fn the_constants_are_the_library_s() {
         assert!(Gps::limits_agree() && Utc::limits_agree() && Glonass::limits_agree() && Tai::limits_agree());
+        assert!(Galileo::limits_agree() && Beidou::limits_agree());
     }
 }

@@ -317,5 +317,13 @@ mod by_table {
         gps_to_glonass by table_gps_to_glonass, builtin_gps_to_glonass: u64 => u64;
         gps_from_unix_seconds by table_gps_from_unix_seconds, builtin_gps_from_unix_seconds: i64 => u64;
         gps_as_unix_seconds by table_gps_as_unix_seconds, builtin_gps_as_unix_seconds: u64 => i64;
+        galileo_to_utc by table_galileo_to_utc, builtin_galileo_to_utc: u64 => u64;
+        utc_to_galileo by table_utc_to_galileo, builtin_utc_to_galileo: u64 => u64;
+        galileo_to_glonass by table_galileo_to_glonass, builtin_galileo_to_glonass: u64 => u64;
+        glonass_to_galileo by table_glonass_to_galileo, builtin_glonass_to_galileo: u64 => u64;
+        beidou_to_utc by table_beidou_to_utc, builtin_beidou_to_utc: u64 => u64;
+        utc_to_beidou by table_utc_to_beidou, builtin_utc_to_beidou: u64 => u64;
+        beidou_to_glonass by table_beidou_to_glonass, builtin_beidou_to_glonass: u64 => u64;
+        glonass_to_beidou by table_glonass_to_beidou, builtin_glonass_to_beidou: u64 => u64;
     }
 }

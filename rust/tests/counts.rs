@@ -1,8 +1,9 @@
 //! Counts, durations, weeks, days, Unix time and civil dates: answers at the edges, and the way back.
 
 use plaitgate::{
-    glonass_to_utc, utc_to_glonass, CivilDate, CivilDateTime, Duration, DurationParts, Error, Glonass, GnssTimeError,
-    Gps, LeapSeconds, Result, Tai, Time, Utc, UNIX_EPOCH, UTC_EPOCH_UNIX_OFFSET_NS, UTC_EPOCH_UNIX_OFFSET_S,
+    glonass_to_utc, utc_to_glonass, Beidou, CivilDate, CivilDateTime, Duration, DurationParts, Error, Galileo, Glonass,
+    GnssTimeError, Gps, LeapSeconds, Result, Tai, Time, Utc, UNIX_EPOCH, UTC_EPOCH_UNIX_OFFSET_NS,
+    UTC_EPOCH_UNIX_OFFSET_S,
 };
 
 /// The same for each scale: they share no type, so that it is said by a macro.
@@ -40,6 +41,8 @@ sums_of!(sums_of_gps_counts, Gps);
 sums_of!(sums_of_utc_counts, Utc);
 sums_of!(sums_of_glonass_counts, Glonass);
 sums_of!(sums_of_tai_counts, Tai);
+sums_of!(sums_of_galileo_counts, Galileo);
+sums_of!(sums_of_beidou_counts, Beidou);
 
 /// For each unit the largest and the least count of which the nanoseconds fit 64 bits, and the next, which is none.
 #[test]

@@ -36,7 +36,15 @@ fn declared_here() -> BTreeSet<String> {
         ("table_try_extend", "uint8_t *, size_t, uint64_t, int32_t"),
     ];
     let writing = writing.into_iter().map(|(name, types)| declaration(name, &[types.to_string()]));
-    declared_of_numbers().into_iter().chain(declared_of_images()).chain(declared_of_lists()).chain(writing).collect()
+    let by_macros = [
+        declared_of_numbers(),
+        declared_of_images(),
+        declared_of_lists(),
+        declared_of_shifted_scales(),
+        declared_of_shifted_scales_by_images(),
+        declared_of_two_shifted_scales(),
+    ];
+    by_macros.into_iter().flatten().chain(writing).collect()
 }
 
 #[test]
@@ -53,7 +61,10 @@ fn counts_and_durations_cross_as_they_are() {
         for same in [gps_from_nanos, gps_as_nanos, utc_from_nanos, utc_as_nanos, glonass_from_nanos] {
             assert_eq!(same(count), Ok(count));
         }
-        for same in [glonass_as_nanos, tai_from_nanos, tai_as_nanos] {
+        for same in [glonass_as_nanos, tai_from_nanos, tai_as_nanos, galileo_from_nanos, galileo_as_nanos] {
+            assert_eq!(same(count), Ok(count));
+        }
+        for same in [beidou_from_nanos, beidou_as_nanos] {
             assert_eq!(same(count), Ok(count));
         }
     }
@@ -83,6 +94,12 @@ fn a_forged_image_is_refused_by_8_in_every_call_and_is_left_alone() {
     assert_eq!(table_current_tai_minus_utc(&forged), Err(bad));
     assert_eq!(table_tai_minus_utc_at(&forged, 0), Err(bad));
     for convert in [table_gps_to_utc, table_utc_to_gps, table_glonass_to_gps, table_gps_to_glonass] {
+        assert_eq!(convert(u64::MAX, &forged), Err(bad));
+    }
+    for convert in [table_galileo_to_utc, table_utc_to_galileo, table_galileo_to_glonass, table_glonass_to_galileo] {
+        assert_eq!(convert(u64::MAX, &forged), Err(bad));
+    }
+    for convert in [table_beidou_to_utc, table_utc_to_beidou, table_beidou_to_glonass, table_glonass_to_beidou] {
         assert_eq!(convert(u64::MAX, &forged), Err(bad));
     }
     assert_eq!(table_gps_from_unix_seconds(i64::MIN, &forged), Err(bad));
