@@ -13,6 +13,9 @@ const SECOND: u64 = 1_000_000_000;
 const ALL: Range<u64> = 0..u64::MAX;
 /// GPS counts from 1980 to 2024, so that every entry of the built-in table is met.
 const OF_GPS: Range<u64> = 0..1_400_000_000 * SECOND;
+/// The GPS counts at the epochs of Galileo and BeiDou.
+const GALILEO: u64 = 619_315_200 * SECOND;
+const BEIDOU: u64 = 820_108_814 * SECOND;
 /// UTC counts of the same years.
 const OF_UTC: Range<u64> = 252_892_800 * SECOND..1_652_892_800 * SECOND;
 
@@ -23,6 +26,12 @@ fn main() {
     {
         civil(&bench, &order);
         conversions(&bench, &order);
+    }
+    bench.begin_beside();
+    for order in
+        [Order { name: "rising", counts: counts::rising }, Order { name: "shuffled", counts: counts::shuffled }]
+    {
+        shifted(&bench, &order);
     }
 }
 
@@ -64,4 +73,33 @@ fn conversions(bench: &Bench, order: &Order) {
     let by_table = |n| utc_to_gps(Time::from_nanos(n), &table);
     bench.compare("UTC to GPS, image", order.name, &utc, by_table, |n| image.utc_to_gps(n));
     bench.alone("image, checked", order.name, &gps, |_| image.len());
+}
+
+/// Galileo and BeiDou beside GPS, from their epochs to 2024: the same instants, by their own counts.
+fn shifted(bench: &Bench, order: &Order) {
+    use port::{beidou_to_utc, galileo_to_utc, gps_to_utc, utc_to_beidou, utc_to_galileo, utc_to_gps, Image};
+    let image = Image::of_builtin();
+    // to UTC: one UTC count
+    let pairs = |behind: u64| -> Vec<(u64, u64)> {
+        (order.counts)(&(behind..OF_GPS.end)).into_iter().map(|gps| (gps, gps - behind)).collect()
+    };
+    let same = |utc: u64, other: u64| utc == other;
+    let (galileo, beidou) = (pairs(GALILEO), pairs(BEIDOU));
+    bench.beside("Galileo to UTC", order.name, &galileo, gps_to_utc, galileo_to_utc, same);
+    bench.beside("BeiDou to UTC", order.name, &beidou, gps_to_utc, beidou_to_utc, same);
+    let by_gps = |n| image.by_gps_to_utc(n);
+    bench.beside("Galileo to UTC, image", order.name, &galileo, by_gps, |n| image.by_galileo_to_utc(n), same);
+    bench.beside("BeiDou to UTC, image", order.name, &beidou, by_gps, |n| image.by_beidou_to_utc(n), same);
+    // from UTC: counts that differ by the difference; from a second past the epoch on, so that no later count is due
+    let pairs = |behind: u64| -> Vec<(u64, u64)> {
+        let first = gps_to_utc(behind).expect("the epoch has a UTC count") + SECOND;
+        (order.counts)(&(first..OF_UTC.end)).into_iter().map(|utc| (utc, utc)).collect()
+    };
+    let (of_galileo, of_beidou) = (|gps: u64, n: u64| gps - n == GALILEO, |gps: u64, n: u64| gps - n == BEIDOU);
+    let (galileo, beidou) = (pairs(GALILEO), pairs(BEIDOU));
+    bench.beside("UTC to Galileo", order.name, &galileo, utc_to_gps, utc_to_galileo, of_galileo);
+    bench.beside("UTC to BeiDou", order.name, &beidou, utc_to_gps, utc_to_beidou, of_beidou);
+    let by_gps = |n| image.by_utc_to_gps(n);
+    bench.beside("UTC to Galileo, image", order.name, &galileo, by_gps, |n| image.by_utc_to_galileo(n), of_galileo);
+    bench.beside("UTC to BeiDou, image", order.name, &beidou, by_gps, |n| image.by_utc_to_beidou(n), of_beidou);
 }

@@ -64,6 +64,36 @@ impl Bench {
         println!("{name:<18} {order:<10} {original:>8.2} {port:>8.2} {:>10.2}", port / original);
     }
 
+    /// Measures two calls of the port, one beside the other, after seeing that `same` holds of their answers. The inputs
+    /// are pairs, one for each of the two; both are timed on reading one half of each pair.
+    pub fn beside<First: Used, Second: Used, Refusal>(
+        &self,
+        name: &str,
+        order: &str,
+        inputs: &[(u64, u64)],
+        first: impl Fn(u64) -> Result<First, Refusal>,
+        second: impl Fn(u64) -> Result<Second, Refusal>,
+        same: impl Fn(u64, u64) -> bool,
+    ) {
+        let used = |answer: Option<u64>| answer.expect("every input has an answer");
+        for (a, b) in inputs {
+            let answers = (first(*a).ok().map(Used::used), second(*b).ok().map(Used::used));
+            assert!(same(used(answers.0), used(answers.1)), "{name} of {a} and {b}: {answers:?}");
+        }
+        let (mut of_first, mut of_second) = (Best::new(inputs), Best::new(inputs));
+        for _ in 0..ROUNDS {
+            of_first.round(inputs, |(a, _)| first(a));
+            of_second.round(inputs, |(_, b)| second(b));
+        }
+        let (first, second) = (of_first.nanos_for_each(inputs), of_second.nanos_for_each(inputs));
+        println!("{name:<25} {order:<10} {first:>8.2} {second:>8.2} {:>10.2}", second / first);
+    }
+
+    /// The heading of what `beside` writes.
+    pub fn begin_beside(&self) {
+        println!("{:<25} {:<10} {:>8} {:>8} {:>10}", "The port beside itself", "inputs", "GPS", "other", "other/GPS");
+    }
+
     /// Measures what only the port does.
     pub fn alone<Input: Copy, Answer: Used, Refusal>(
         &self,

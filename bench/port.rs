@@ -33,6 +33,49 @@ extern "C" {
     fn plaitgate_table_len(image: *const u8, image_bytes: usize, len: *mut u64) -> u32;
 }
 
+/// Calls on a count, by the built-in table and by an image: the names of the exported functions.
+macro_rules! by_tables {
+    ($($name:ident, $by_image:ident: $builtin:literal, $table:literal;)*) => {
+        $(
+            #[inline(always)]
+            pub fn $name(count: u64) -> Answer<u64> {
+                extern "C" {
+                    #[link_name = $builtin]
+                    fn exported(count: u64, result: *mut u64) -> u32;
+                }
+                let mut result = 0;
+                // SAFETY: the result has a place
+                let refusal = unsafe { exported(count, &mut result) };
+                answer(refusal, result)
+            }
+        )*
+        impl Image {
+            $(
+                #[inline(always)]
+                pub fn $by_image(&self, count: u64) -> Answer<u64> {
+                    extern "C" {
+                        #[link_name = $table]
+                        fn exported(count: u64, image: *const u8, image_bytes: usize, result: *mut u64) -> u32;
+                    }
+                    let mut result = 0;
+                    // SAFETY: the image is so long, and the result has a place
+                    let refusal = unsafe { exported(count, self.0.as_ptr(), self.0.len(), &mut result) };
+                    answer(refusal, result)
+                }
+            )*
+        }
+    };
+}
+
+by_tables! {
+    gps_to_utc, by_gps_to_utc: "plaitgate_builtin_gps_to_utc", "plaitgate_table_gps_to_utc";
+    utc_to_gps, by_utc_to_gps: "plaitgate_builtin_utc_to_gps", "plaitgate_table_utc_to_gps";
+    galileo_to_utc, by_galileo_to_utc: "plaitgate_builtin_galileo_to_utc", "plaitgate_table_galileo_to_utc";
+    utc_to_galileo, by_utc_to_galileo: "plaitgate_builtin_utc_to_galileo", "plaitgate_table_utc_to_galileo";
+    beidou_to_utc, by_beidou_to_utc: "plaitgate_builtin_beidou_to_utc", "plaitgate_table_beidou_to_utc";
+    utc_to_beidou, by_utc_to_beidou: "plaitgate_builtin_utc_to_beidou", "plaitgate_table_utc_to_beidou";
+}
+
 /// The answer, or the number of the refusal.
 type Answer<A> = Result<A, u32>;
 
