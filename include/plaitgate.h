@@ -668,8 +668,10 @@ uint32_t plaitgate_builtin_glonass_to_galileo(uint64_t glonass, uint64_t *galile
    first is at least 86400 s above the one before.) */
 uint32_t plaitgate_table_galileo_to_utc(uint64_t galileo, const uint8_t *image, size_t image_bytes, uint64_t *utc);
 uint32_t plaitgate_table_utc_to_galileo(uint64_t utc, const uint8_t *image, size_t image_bytes, uint64_t *galileo);
-uint32_t plaitgate_table_galileo_to_glonass(uint64_t galileo, const uint8_t *image, size_t image_bytes, uint64_t *glonass);
-uint32_t plaitgate_table_glonass_to_galileo(uint64_t glonass, const uint8_t *image, size_t image_bytes, uint64_t *galileo);
+uint32_t plaitgate_table_galileo_to_glonass(uint64_t galileo, const uint8_t *image, size_t image_bytes,
+    uint64_t *glonass);
+uint32_t plaitgate_table_glonass_to_galileo(uint64_t glonass, const uint8_t *image, size_t image_bytes,
+    uint64_t *galileo);
 
 /* ---- BeiDou to GPS, UTC and GLONASS, and back ---- */
 
@@ -703,15 +705,17 @@ uint32_t plaitgate_builtin_glonass_to_beidou(uint64_t glonass, uint64_t *beidou)
    first is at least 86400 s above the one before.) */
 uint32_t plaitgate_table_beidou_to_utc(uint64_t beidou, const uint8_t *image, size_t image_bytes, uint64_t *utc);
 uint32_t plaitgate_table_utc_to_beidou(uint64_t utc, const uint8_t *image, size_t image_bytes, uint64_t *beidou);
-uint32_t plaitgate_table_beidou_to_glonass(uint64_t beidou, const uint8_t *image, size_t image_bytes, uint64_t *glonass);
-uint32_t plaitgate_table_glonass_to_beidou(uint64_t glonass, const uint8_t *image, size_t image_bytes, uint64_t *beidou);
+uint32_t plaitgate_table_beidou_to_glonass(uint64_t beidou, const uint8_t *image, size_t image_bytes,
+    uint64_t *glonass);
+uint32_t plaitgate_table_glonass_to_beidou(uint64_t glonass, const uint8_t *image, size_t image_bytes,
+    uint64_t *beidou);
 
 /* end of shifted scales */
 
 /* ---- Galileo and BeiDou ---- */
 
-/* The BeiDou count of a Galileo count, by way of GPS. Refuses with 1 where the GPS count is above 64 bits, and before the
-   epoch of BeiDou. */
+/* The BeiDou count of a Galileo count, by way of GPS. Refuses with 1 where the GPS count is above 64 bits, and before
+   the epoch of BeiDou. */
 uint32_t plaitgate_galileo_to_beidou(uint64_t galileo, uint64_t *beidou);
 
 /* The Galileo count of a BeiDou count, by way of GPS. Refuses with 1 where the GPS count is above 64 bits. */
