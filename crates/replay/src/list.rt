@@ -148,9 +148,10 @@ fn same(reply: Reply, sizes: [u64; 16], signs: [u64; 16], at: usize) -> bool {
 // Where a line has the refusal's number: after the call's number and its inputs.
 fn place_of_refusal(call: u64) -> usize {
     match call {
-        11 | 22 | 33 | 44 => 1,
+        11 | 22 | 33 | 44 | 116 | 127 => 1,
         6..=10 | 17..=21 | 28..=32 | 39..=43 | 61 | 83..=89 | 94 => 3,
-        45 | 51 | 64 | 65 | 98 => 4,
+        111..=115 | 122..=126 | 150..=157 => 3,
+        45 | 51 | 64 | 65 | 98 | 128 | 132 => 4,
         66..=68 => 7,
         71..=73 | 97 | 99..=104 => 8,
         _ => 2,
