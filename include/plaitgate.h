@@ -650,8 +650,8 @@ uint32_t plaitgate_gps_to_galileo(uint64_t gps, uint64_t *galileo);
 uint32_t plaitgate_builtin_galileo_to_utc(uint64_t galileo, uint64_t *utc);
 
 /* The Galileo count of a UTC count by the built-in table, by way of GPS. A UTC count that two Galileo counts have
-   becomes the earlier of them. Refuses as plaitgate_builtin_utc_to_gps, then with 1 where no GPS count that the UTC
-   count has lies at or after the epoch of Galileo. */
+   becomes the earlier of them. Refuses as plaitgate_builtin_utc_to_gps, then with 1 where every GPS count of the UTC
+   count is before the epoch of Galileo. */
 uint32_t plaitgate_builtin_utc_to_galileo(uint64_t utc, uint64_t *galileo);
 
 /* The GLONASS count of a Galileo count by the built-in table, by way of UTC. Refuses as
@@ -664,7 +664,7 @@ uint32_t plaitgate_builtin_glonass_to_galileo(uint64_t glonass, uint64_t *galile
 
 /* The same four by the table in an image. Each refuses with 8 first where the image holds no valid table. From UTC and
    from GLONASS, a table that is not regular gives no more than the first GPS count of a UTC count, and refuses with 1
-   where that lies before the epoch of Galileo. (A table is regular if it begins (0, 19) and each threshold after the
+   where that is before the epoch of Galileo. (A table is regular if it begins (0, 19) and each threshold after the
    first is at least 86400 s above the one before.) */
 uint32_t plaitgate_table_galileo_to_utc(uint64_t galileo, const uint8_t *image, size_t image_bytes, uint64_t *utc);
 uint32_t plaitgate_table_utc_to_galileo(uint64_t utc, const uint8_t *image, size_t image_bytes, uint64_t *galileo);
@@ -687,8 +687,8 @@ uint32_t plaitgate_gps_to_beidou(uint64_t gps, uint64_t *beidou);
 uint32_t plaitgate_builtin_beidou_to_utc(uint64_t beidou, uint64_t *utc);
 
 /* The BeiDou count of a UTC count by the built-in table, by way of GPS. A UTC count that two BeiDou counts have
-   becomes the earlier of them. Refuses as plaitgate_builtin_utc_to_gps, then with 1 where no GPS count that the UTC
-   count has lies at or after the epoch of BeiDou. */
+   becomes the earlier of them. Refuses as plaitgate_builtin_utc_to_gps, then with 1 where every GPS count of the UTC
+   count is before the epoch of BeiDou. */
 uint32_t plaitgate_builtin_utc_to_beidou(uint64_t utc, uint64_t *beidou);
 
 /* The GLONASS count of a BeiDou count by the built-in table, by way of UTC. Refuses as
@@ -701,7 +701,7 @@ uint32_t plaitgate_builtin_glonass_to_beidou(uint64_t glonass, uint64_t *beidou)
 
 /* The same four by the table in an image. Each refuses with 8 first where the image holds no valid table. From UTC and
    from GLONASS, a table that is not regular gives no more than the first GPS count of a UTC count, and refuses with 1
-   where that lies before the epoch of BeiDou. (A table is regular if it begins (0, 19) and each threshold after the
+   where that is before the epoch of BeiDou. (A table is regular if it begins (0, 19) and each threshold after the
    first is at least 86400 s above the one before.) */
 uint32_t plaitgate_table_beidou_to_utc(uint64_t beidou, const uint8_t *image, size_t image_bytes, uint64_t *utc);
 uint32_t plaitgate_table_utc_to_beidou(uint64_t utc, const uint8_t *image, size_t image_bytes, uint64_t *beidou);

@@ -139,7 +139,7 @@ fn beyond_tai<S: Shifted>(gps: u128) -> Due {
     Ok(u64::try_from(count).ok())
 }
 
-/// What became of the later of two GPS counts of a UTC count, the first of which lies before the scale's epoch.
+/// What became of the later of two GPS counts of a UTC count, the first of which is before the scale's epoch.
 #[derive(Clone, Copy, PartialEq, Eq, PartialOrd, Ord)]
 enum Later {
     Taken,
@@ -147,8 +147,8 @@ enum Later {
     BeforeEpoch,
 }
 
-/// The crate tells the first of two GPS counts, that of the inserted second, though it lies before the scale's epoch.
-/// The port takes the later one if the table is regular and the later one does not lie before the epoch too.
+/// The crate tells the first of two GPS counts, that of the inserted second, though it is before the scale's epoch.
+/// The port takes the later one if the table is regular and the later one is not before the epoch too.
 fn later_count<S: Shifted>(first: Time<S>, utc: Time<Utc>, table: &impl Table) -> Option<u64> {
     let later = first.try_convert::<Gps>().ok()?.checked_add(Duration::from_nanos(SECOND as i64))?;
     // the crate panics on a lower offset, and a table that is not regular may have one
@@ -186,7 +186,7 @@ pub fn laters_met() -> [(String, bool); 2] {
         let [taken, not_regular, before] = [Later::Taken, Later::NotRegular, Later::BeforeEpoch].map(times);
         let sentence = format!(
             "the later count of {scale}: taken {taken} times, refused {not_regular} times since the table is not \
-             regular and {before} times since it lies before the epoch too"
+             regular and {before} times since it is before the epoch too"
         );
         (sentence, taken > 0 && not_regular > 0 && before > 0)
     })

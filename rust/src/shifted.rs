@@ -61,7 +61,7 @@ macro_rules! shifted {
         }
 
         #[doc = concat!("The ", $named, " count of a UTC count, by way of GPS: the first of two, where a second was")]
-        #[doc = concat!("inserted, or the later one, where the first lies before the epoch of ", $named, ".")]
+        #[doc = concat!("inserted, or the later one, where the first is before the epoch of ", $named, ".")]
         /// Refuses as [`utc_to_gps`](crate::utc_to_gps), then with [`Overflow`](crate::Error::Overflow) before the
         /// epoch.
         ///

@@ -26,7 +26,7 @@ laterOf es earlier =
     let later = earlier + second in
     cond (regular es && sameAnswer (gpsToUtc es earlier) (gpsToUtc es later)) (answered later) (refused 1)
 
--- by the later GPS count where the earlier lies before the scale's epoch
+-- by the later GPS count where the earlier is before the scale's epoch
 abbrev pub utcToShifted : ℕ → List Entry → ℕ → Outcome ℕ
 utcToShifted d es utc =
     then (utcToGps es utc) (λ gps. then (cond (leb d gps) (answered gps) (laterOf es gps)) (down d))

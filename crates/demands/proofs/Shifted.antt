@@ -1,5 +1,5 @@
 -- Demand 3 of a scale whose counts are those of GPS less d, for any d: first of GPS counts from d on, where the later
--- of two is taken if the earlier lies before d, and from there by FixedDifference.antt.
+-- of two is taken if the earlier is before d, and from there by FixedDifference.antt.
 use mathlib.Core.Path.{_≡_, refl, sym, ap, _∙_, subst}
 use mathlib.Core.Bool.{Bool, true, false, cond, false≢true}
 use mathlib.Core.List.{List}

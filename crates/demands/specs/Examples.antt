@@ -60,7 +60,7 @@ examples week =
     utcToShifted gpsMinusGalileo builtin 872_207_986_999_999_999 is refused 1 ∷
     shiftedToUtc gpsMinusBeidou builtin 0 is answered (1_073_001_600 * second) ∷
     countAt (fields (pos 2006) 1 1 0 0 0 0) is answered (1_073_001_600 * second) ∷
-    -- BeiDou's epoch is a threshold: the first GPS count of that second lies before it, and the later one is taken
+    -- BeiDou's epoch is a threshold: the first GPS count of that second is before it, and the later one is taken
     utcToGps builtin (1_073_001_600 * second) is answered (820_108_813 * second) ∷
     utcToShifted gpsMinusBeidou builtin 1_073_001_599_999_999_999 is refused 1 ∷
     utcToShifted gpsMinusBeidou builtin 1_073_001_600_000_000_000 is answered 0 ∷
@@ -71,7 +71,7 @@ examples week =
     -- by tables with that threshold: regular, and not, since it does not begin (0, 19)
     utcToShifted gpsMinusBeidou (from 0 (820_108_833 * second)) (1_073_001_613 * second) is answered 0 ∷
     utcToShifted gpsMinusBeidou (from 1 (820_108_833 * second)) (1_073_001_613 * second) is refused 1 ∷
-    -- by a threshold half a second before it: a later count that lies before the epoch too is not taken
+    -- by a threshold half a second before it: a later count that is before the epoch too is not taken
     utcToShifted gpsMinusBeidou (from 0 820_108_832_500_000_000) 1_073_001_612_500_000_000 is refused 1 ∷
     utcToShifted gpsMinusBeidou (from 0 820_108_832_500_000_000) 1_073_001_612_999_999_999 is refused 1 ∷
     utcToShifted gpsMinusBeidou (from 0 820_108_832_500_000_000) 1_073_001_613_000_000_000 is answered 0 ∷

@@ -115,7 +115,7 @@ pub fn table_in(image: &[u8]) -> LeapTable
 }
 
 // The count of a scale that is behind GPS, by the later of two GPS counts that share a UTC count. The table is copied for
-// that, where the earlier lies before the scale's epoch.
+// that, where the earlier is before the scale's epoch.
 pub fn shifted_by_later(image: &[u8], gps: u64, behind: u64) -> CountAnswer
     requires { ⌜ length (now image) ≡ imageBytes ⌝ }
     requires { ⌜ validTable (tableIn (now image)) ≡ true ⌝ }

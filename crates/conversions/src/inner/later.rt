@@ -1,5 +1,5 @@
 // The later of two GPS counts that share a UTC count, for a scale that begins between them. It is looked for only where
-// the first lies before the scale's epoch, and whatever store that was found by, in a table by value.
+// the first is before the scale's epoch, and whatever store that was found by, in a table by value.
 ghost use mathlib.Core.Path.{_≡_};
 ghost use mathlib.Core.Bool.{true};
 ghost use Rattle.refusals.specs.Outcome.{answered};
