@@ -10,9 +10,7 @@ ghost use Rattle.lines.specs.Pieces.{AnswersBlock};
 ghost use Rattle.lines.specs.Places.{Within, Stands};
 ghost use Rattle.civilgps.specs.Answer.{utcOfLine, gpsOfLine, answerTo};
 use lines::inner::find::Answered;
-use lines::inner::find::LINE_END;
 use lines::inner::find::keep;
-use lines::inner::find::next_end;
 use lines::inner::find::whole_line;
 use lines::inner::put::put_refused;
 use lines::inner::streams::Place;
@@ -24,6 +22,8 @@ use scales::gps::Gps;
 use scales::gps::GpsAnswer;
 use scales::utc::UtcAnswer;
 use stamps::StampAnswer;
+use texts::inner::LINE_END;
+use texts::inner::next_end;
 use words::inner::digits::put_count;
 
 // No answer is longer, the line end included.

@@ -10,9 +10,7 @@ ghost use Rattle.lines.specs.Places.{Within, Stands};
 ghost use Rattle.gpscivil.specs.Answer.{civilOf, utcOfLine, answerTo};
 use counts::CountAnswer;
 use lines::inner::find::Answered;
-use lines::inner::find::LINE_END;
 use lines::inner::find::keep;
-use lines::inner::find::next_end;
 use lines::inner::find::whole_line;
 use lines::inner::put::put_refused;
 use lines::inner::streams::Place;
@@ -23,6 +21,8 @@ use lines::inner::streams::write_out;
 use scales::gps::Gps;
 use scales::utc::Utc;
 use scales::utc::UtcAnswer;
+use texts::inner::LINE_END;
+use texts::inner::next_end;
 
 // The longest answer: a date and time, and a line end.
 const LONGEST_ANSWER: usize = 31;

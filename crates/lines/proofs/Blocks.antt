@@ -13,9 +13,10 @@ use lib.ListN.{length, getD, take, drop, length-append, length-drop, length-take
 use lib.Seq.{sets, sets-eq, length-sets, drop-drop, length-take-le, take-add, take-all, take-at, take-suc, take-take}
 use lib.Seq.{take-append-add, getD-drop}
 use Rattle.words.proofs.Stores.{joined}
+use Rattle.texts.specs.Ends.{untilEnd}
+use Rattle.texts.proofs.LineEnds.{ends-at}
 use Rattle.lines.specs.OutcomeLine.{Puts, PutsWithRoom}
-use Rattle.lines.specs.Pieces.{begunAfter, written, untilEnd, Answers, AnswersBlock, lineUpTo, Keeps}
-use Rattle.lines.proofs.LineEnds.{ends-at}
+use Rattle.lines.specs.Pieces.{begunAfter, written, Answers, AnswersBlock, lineUpTo, Keeps}
 use Rattle.lines.proofs.Cutting.{begun-joins, written-joins, free-begun, free-writes}
 use Rattle.lines.proofs.WholeInput.{AnswersLines}
 

@@ -9,8 +9,9 @@ use borrow.Author.Tests.{lt-ltb, le-ltb}
 use lib.Dec.{eqb, ltb}
 use lib.ListN.{length, take, length-append}
 use lib.Seq.{take-all, take-append-le, length-take-le}
-use Rattle.lines.specs.Pieces.{grown, begunAfter, written, hasNoEnd}
-use Rattle.lines.proofs.LineEnds.{no-end}
+use Rattle.texts.specs.Ends.{hasNoEnd}
+use Rattle.texts.proofs.LineEnds.{no-end}
+use Rattle.lines.specs.Pieces.{grown, begunAfter, written}
 
 -- ---- a piece and then another is both of them at once
 pub begun-joins : (c a b : List ℕ) → begunAfter c (a ++ b) ≡ begunAfter (begunAfter c a) b

@@ -1,4 +1,3 @@
-pub mod LineEnds
 pub mod Cutting
 pub mod Blocks
 pub mod WholeInput

@@ -9,7 +9,8 @@ use native.Mathlib.Omega.{arith}
 use lib.Dec.{eqb}
 use lib.ListN.{length, take}
 use lib.Seq.{take-all, length-take-le}
-use Rattle.lines.specs.Lines.{prependByte, linesOf, answers}
+use Rattle.texts.specs.Lines.{prependByte, linesOf}
+use Rattle.lines.specs.Lines.{answers}
 use Rattle.lines.specs.Pieces.{begunAfter, written}
 use Rattle.lines.proofs.Cutting.{begun-joins, written-joins, clipped}
 

@@ -2,8 +2,8 @@
 -- and of the programs' own functions cite these definitions: what they come to for a whole input is in
 -- proofs/WholeInput.antt.
 use mathlib.Core.Path.{_≡_}
-use Prim.Native.Nat.{ℕ, suc, _+_, _-_, _≤_}
-use mathlib.Core.Bool.{Bool, true, cond, not, _&&_}
+use Prim.Native.Nat.{ℕ, _+_, _-_, _≤_}
+use mathlib.Core.Bool.{cond}
 use mathlib.Core.List.{List, [], _∷_, _++_}
 use lib.Dec.{eqb, ltb}
 use lib.ListN.{length, take, drop}
@@ -38,21 +38,6 @@ pub record AnswersBlock (longest : ℕ) (f : List ℕ → List ℕ) (c block out
   pub room : r .made ≤ length out
   pub taken : Answers f c (take (r .taken) block) out line′ (r .used) out′ (r .made)
   pub all : r .made + longest ≤ length out → r .taken ≡ length block
-
--- ---- the search for a line end
--- no byte ends a line
-abbrev pub hasNoEnd : List ℕ → Bool
-hasNoEnd [] = true
-hasNoEnd (b ∷ bs) = not (eqb b 10) && hasNoEnd bs
-
--- how many bytes stand before the first byte 10
-abbrev pub untilEnd : List ℕ → ℕ
-untilEnd [] = 0
-untilEnd (b ∷ bs) = cond (eqb b 10) 0 (suc (untilEnd bs))
-
--- no byte from `at` to i is a byte 10
-abbrev pub NoEndBetween : List ℕ → ℕ → ℕ → Type 0
-NoEndBetween s at i = (at + untilEnd (drop at s) ≡ i + untilEnd (drop i s)) × (i ≤ length s)
 
 -- the line of which `used` bytes are in the line buffer, and the rest in a block from `at` to `end`
 abbrev pub lineUpTo : List ℕ → ℕ → List ℕ → ℕ → ℕ → List ℕ

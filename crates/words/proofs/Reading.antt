@@ -16,7 +16,7 @@ pub a-digit : (b : ℕ) → 48 ≤ b → b ≤ 57 → isDigit b ≡ true
 a-digit b l h = rw (le-leb 48 b l, le-leb b 57 h)
 
 -- more digits make no value less
-grows : (v : ℕ) (bs : List ℕ) → v ≤ valueFrom v bs
+pub grows : (v : ℕ) (bs : List ℕ) → v ≤ valueFrom v bs
 grows v [] = omega arith
 grows v (b ∷ bs) = omega (arith, grows (v * 10 + (b - 48)) bs)
 

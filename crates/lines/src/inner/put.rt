@@ -6,8 +6,8 @@ ghost use lib.Seq.{sets};
 ghost use Rattle.refusals.specs.Number.{numberOf};
 ghost use Rattle.refusals.specs.Outcome.{refused};
 ghost use Rattle.lines.specs.OutcomeLine.{Puts, lineOf};
-use crate::inner::find::LINE_END;
 use refusals::Refusal;
+use texts::inner::LINE_END;
 use words::inner::digits::put_count;
 
 // Writes the bytes of `s` at a place.

@@ -3,13 +3,13 @@
 ghost use Prim.Native.Nat.{_<_};
 ghost use lib.ListN.{length};
 ghost use Rattle.lines.specs.Places.{Within, Stands};
-use crate::inner::find::LINE_END;
 use libc::EAGAIN;
 use libc::EINTR;
 use libc::STDERR_FILENO;
 use libc::STDIN_FILENO;
 use libc::STDOUT_FILENO;
 use libc::types::timespec;
+use texts::inner::LINE_END;
 
 // Where a run stands: `used` bytes of a line are in the line buffer, and the bytes of the block from `at` to `end` are
 // to be taken. `over` says that the input has ended.

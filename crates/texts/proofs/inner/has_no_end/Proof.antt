@@ -6,9 +6,9 @@ use native.Mathlib.Omega.{arith}
 use borrow.Author.Needs.{needs}
 use denote.Ref.{now}
 use lib.ListN.{length, drop, drop-of-length-le}
-use Rattle.lines.specs.Pieces.{hasNoEnd}
-use Rattle.lines.proofs.LineEnds.{opened}
-use Rattle.lines.proofs.inner.find.has_no_end as call
+use Rattle.texts.specs.Ends.{hasNoEnd}
+use Rattle.texts.proofs.LineEnds.{opened}
+use Rattle.texts.proofs.inner.has_no_end as call
 
 abbrev Inv-loop : call.Tie.InvT-loop
 Inv-loop s none₀ i₀ none i = (hasNoEnd s ≡ (none && hasNoEnd (drop i s))) × (i ≤ length s)

@@ -6,9 +6,9 @@ use borrow.Author.Needs.{needs}
 use denote.Ref.{now}
 use lib.ListN.{length, drop, length-drop}
 use lib.Seq.{drop-drop}
-use Rattle.lines.specs.Pieces.{untilEnd, NoEndBetween}
-use Rattle.lines.proofs.LineEnds.{passed-over}
-use Rattle.lines.proofs.inner.find.skip_windows as call
+use Rattle.texts.specs.Ends.{untilEnd, NoEndBetween}
+use Rattle.texts.proofs.LineEnds.{passed-over}
+use Rattle.texts.proofs.inner.skip_windows as call
 
 abbrev Inv-loop : call.Tie.InvT-loop
 Inv-loop s at i₀ i = NoEndBetween s at i

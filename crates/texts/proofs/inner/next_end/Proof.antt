@@ -5,9 +5,9 @@ use native.Mathlib.Omega.{arith}
 use borrow.Author.Needs.{needs}
 use denote.Ref.{now}
 use lib.ListN.{length, drop-of-length-le}
-use Rattle.lines.specs.Pieces.{untilEnd, NoEndBetween}
-use Rattle.lines.proofs.LineEnds.{found, passed}
-use Rattle.lines.proofs.inner.find.next_end as call
+use Rattle.texts.specs.Ends.{untilEnd, NoEndBetween}
+use Rattle.texts.proofs.LineEnds.{found, passed}
+use Rattle.texts.proofs.inner.next_end as call
 
 abbrev Inv-loop : call.Tie.InvT-loop
 Inv-loop s at i₀ i = NoEndBetween s at i

@@ -11,7 +11,7 @@ use lib.Dec.{eqb}
 use lib.ListN.{length, getD, take, drop}
 use lib.Seq.{drop-cons}
 use Rattle.words.proofs.WayBack.{first-half, second-half}
-use Rattle.lines.specs.Pieces.{hasNoEnd, untilEnd}
+use Rattle.texts.specs.Ends.{hasNoEnd, untilEnd}
 
 -- the byte at a place inside, and those after it
 module _ (s : List ℕ) (i : ℕ) (inside : i < length s) where

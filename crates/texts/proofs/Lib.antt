@@ -1,0 +1,2 @@
+pub mod LineEnds
+pub mod FirstLine

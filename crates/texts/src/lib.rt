@@ -1,0 +1,2 @@
+// Lines of a text that stands whole in a slice: where each line ends.
+pub mod inner;
