@@ -91,12 +91,13 @@ lastUpdate [] = none
 lastUpdate (e ∷ []) = none
 lastUpdate (e ∷ f ∷ fs) = some (threshold (lastOr f fs))
 
+-- why an offset cannot follow another, 7, 4 in that order; 0 where it can
+abbrev pub offsetRefusal : ℤ → ℤ → ℕ
+offsetRefusal p n = cond (equal p (pos 2_147_483_647)) 7 (cond (equal n (p +ℤ pos 1)) 0 4)
+
 -- why an entry cannot follow another, 3, 7, 4 in that order; 0 where it can
 abbrev pub stepRefusal : Entry → Entry → ℕ
-stepRefusal p e =
-    cond (leb (threshold e) (threshold p)) 3
-    (cond (equal (offset p) (pos 2_147_483_647)) 7
-    (cond (equal (offset e) (offset p +ℤ pos 1)) 0 4))
+stepRefusal p e = cond (leb (threshold e) (threshold p)) 3 (offsetRefusal (offset p) (offset e))
 
 -- why an entry cannot be joined to a list, 5, then by the last entry; an empty list takes any
 unfoldable pub joinRefusal : List Entry → Entry → ℕ

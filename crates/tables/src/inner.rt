@@ -6,7 +6,7 @@ ghost use Prim.Native.Nat.{ℕ, _+_, _-_, _≤_, _<_, min};
 ghost use lib.Dec.{leb, eqb};
 ghost use lib.ListN.{length};
 ghost use Rattle.refusals.specs.Outcome.{answered, changed};
-ghost use Rattle.tables.specs.Entries.{stepRefusal, firstRefusal, joinRefusal, lookup, valid, neighbours, day};
+ghost use Rattle.tables.specs.Entries.{offsetRefusal, stepRefusal, firstRefusal, joinRefusal, lookup, valid, neighbours, day};
 ghost use Rattle.tables.specs.Entries.{aDayOn, regular};
 ghost use Rattle.tables.specs.Slots.{slotAt, slots, validSlots, ofValidSlots, joinedTo, tableOf};
 ghost use Rattle.tables.specs.Search.{Rises, AtOrBelow};
@@ -41,6 +41,21 @@ pub fn slot<'a>(thresholds: &'a [u64], offsets: &'a [i32], i: usize) -> LeapEntr
     }
 }
 
+// Whether an offset can follow another.
+pub fn offset_step(before: i32, next: i32) -> Taken
+    ensures { λ r. ⌜ takenIn r ≡ offsetRefusal before next ⌝ }
+{
+    if before == LARGEST_OFFSET {
+        return Taken::Refused(Refusal::OffsetOverflow);
+    }
+    let one_more = before + 1;
+    if next == one_more {
+        Taken::Done
+    } else {
+        Taken::Refused(Refusal::NonUnitIncrement)
+    }
+}
+
 // Whether an entry can follow another.
 pub fn step(before: LeapEntry, next: LeapEntry) -> Taken
     ensures { λ r. ⌜ takenIn r ≡ stepRefusal before next ⌝ }
@@ -49,16 +64,8 @@ pub fn step(before: LeapEntry, next: LeapEntry) -> Taken
         return Taken::Refused(Refusal::NotStrictlyAscending);
     }
     let offset = before.tai_minus_utc;
-    if offset == LARGEST_OFFSET {
-        return Taken::Refused(Refusal::OffsetOverflow);
-    }
-    let one_more = offset + 1;
     let given = next.tai_minus_utc;
-    if given == one_more {
-        Taken::Done
-    } else {
-        Taken::Refused(Refusal::NonUnitIncrement)
-    }
+    offset_step(offset, given)
 }
 
 // The first refusal of an entry by the one before it. There is none exactly if the entries are valid.
