@@ -21,6 +21,7 @@ numbered k =
     refusal.OffsetRange ∷
     refusal.BadLine ∷
     refusal.InvalidNanos ∷
+    refusal.BadList ∷
     [])
     (k - 1)
     refusal.Overflow
@@ -38,3 +39,4 @@ numbered-again refusal.BadTable = refl
 numbered-again refusal.OffsetRange = refl
 numbered-again refusal.BadLine = refl
 numbered-again refusal.InvalidNanos = refl
+numbered-again refusal.BadList = refl

@@ -15,3 +15,4 @@ numberOf refusal.BadTable = 8
 numberOf refusal.OffsetRange = 9
 numberOf refusal.BadLine = 10
 numberOf refusal.InvalidNanos = 11
+numberOf refusal.BadList = 12

@@ -26,6 +26,8 @@ pub enum Refusal {
     BadLine,
     // nanoseconds that make a second or more
     InvalidNanos,
+    // a leap-seconds.list that is too long, has a malformed line, or has entries but none with offset 19
+    BadList,
 }
 
 impl Refusal {
@@ -45,6 +47,7 @@ impl Refusal {
             Refusal::OffsetRange => 9,
             Refusal::BadLine => 10,
             Refusal::InvalidNanos => 11,
+            Refusal::BadList => 12,
         }
     }
 }
