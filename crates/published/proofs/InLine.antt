@@ -1,0 +1,113 @@
+-- What stands in a line and what stands in the text that begins with it: no byte that a part of a line is made of ends
+-- the line, so a reader may look at the text.
+use mathlib.Core.Path.{_≡_, refl, sym, ap, _∙_}
+use mathlib.Core.Bool.{Bool, true, false, cond, _&&_, _||_, true≢false, or-true, or-false}
+use mathlib.Core.List.{List, [], _∷_}
+use Prim.Native.Nat.{ℕ, zero, suc, _+_, _-_, _≤_, _<_}
+use native.Mathlib.Omega.{arith}
+use borrow.Author.Tests.{eqb-true, eq-eqb, ne-eqb}
+use lib.Dec.{eqb}
+use lib.ListN.{length, getD, take, drop, length-drop}
+use lib.Seq.{drop-cons, getD-take, getD-drop, length-take-le}
+use Rattle.refusals.specs.Outcome.{Outcome, refused}
+use Rattle.words.specs.Decimal.{isDigit, countRead}
+use Rattle.texts.specs.Ends.{untilEnd}
+use Rattle.published.specs.LeapSecondsList.{front, behind, begins, isBlank, isHash, endsInReturn}
+use Rattle.published.specs.LeapSecondsList.{in31Bits, offsetRead}
+use Rattle.published.specs.Places.{firstLine}
+
+-- ---- parts by a test that a line end does not pass
+module _ (test : ℕ → Bool) (in-line : test 10 ≡ false) where
+  fails : (b : ℕ) → eqb b 10 ≡ true → test b ≡ false
+  fails b e = ap test (eqb-true b 10 e) ∙ in-line
+
+  pub behind-line : (s : List ℕ) → behind test (firstLine s) ≡ firstLine (behind test s)
+  unfolding behind
+  behind-line [] = refl
+  behind-line (b ∷ s) = by-byte (eqb b 10) refl (test b) refl (behind-line s)
+    where
+      by-byte : (t : Bool) → eqb b 10 ≡ t → (u : Bool) → test b ≡ u → behind test (firstLine s) ≡ firstLine (behind test s)
+          → behind test (firstLine (b ∷ s)) ≡ firstLine (behind test (b ∷ s))
+      by-byte true e true f rest = absurd (true≢false (sym f ∙ fails b e))
+      by-byte true e false f rest = rw (f, e)
+      by-byte false e true f rest = rw (e, f) rest
+      by-byte false e false f rest = rw (e, f, e)
+
+  pub front-line : (s : List ℕ) → front test (firstLine s) ≡ front test s
+  unfolding front
+  front-line [] = refl
+  front-line (b ∷ s) = by-byte (eqb b 10) refl (front-line s)
+    where
+      by-byte : (t : Bool) → eqb b 10 ≡ t → front test (firstLine s) ≡ front test s
+          → front test (firstLine (b ∷ s)) ≡ front test (b ∷ s)
+      by-byte true e rest = rw (e, fails b e)
+      by-byte false e rest = rw (e, rest)
+
+  pub begins-line : (s : List ℕ) → begins false test (firstLine s) ≡ begins false test s
+  begins-line [] = refl
+  begins-line (b ∷ s) = by-byte (eqb b 10) refl
+    where
+      by-byte : (t : Bool) → eqb b 10 ≡ t → begins false test (firstLine (b ∷ s)) ≡ test b
+      by-byte true e = rw (e, fails b e)
+      by-byte false e = rw e
+
+-- the sign of a comment, or the end of a line
+abbrev pub endsData : ℕ → Bool
+endsData b = isHash b || eqb b 10
+
+pub data-ends-line : (s : List ℕ) → begins true isHash (firstLine s) ≡ begins true endsData s
+data-ends-line [] = refl
+data-ends-line (b ∷ s) = by-byte (eqb b 10) refl
+  where
+    by-byte : (t : Bool) → eqb b 10 ≡ t → begins true isHash (firstLine (b ∷ s)) ≡ endsData b
+    by-byte true e = rw (e, or-true)
+    by-byte false e = rw (e, or-false)
+
+-- the reader of an offset may look at the text
+pub offset-line : (s : List ℕ)
+    → offsetRead (firstLine s)
+    ≡ cond (begins false isBlank s && begins true endsData (behind isBlank (behind isDigit (behind isBlank s))))
+    (in31Bits (countRead (front isDigit (behind isBlank s)))) (refused 12)
+offset-line s =
+    rw (
+      begins-line isBlank refl s,
+      behind-line isBlank refl s,
+      behind-line isDigit refl (behind isBlank s),
+      behind-line isBlank refl (behind isDigit (behind isBlank s)),
+      data-ends-line (behind isBlank (behind isDigit (behind isBlank s))),
+      front-line isDigit refl (behind isBlank s),
+    )
+
+-- ---- the last byte of a line
+ends-by : (l : List ℕ) (k : ℕ) → length l ≡ suc k → endsInReturn l ≡ eqb (getD l k 0) 13
+unfolding endsInReturn
+ends-by [] k h = absurd (omega arith)
+ends-by (b ∷ []) zero h = refl
+ends-by (b ∷ []) (suc k) h = absurd (omega arith)
+ends-by (b ∷ c ∷ cs) zero h = absurd (omega arith)
+ends-by (b ∷ c ∷ cs) (suc k) h = rw (ne-eqb (length (c ∷ cs)) 0 (λ e. omega arith)) (ends-by (c ∷ cs) k (omega arith))
+
+pub return-at : (s : List ℕ) (at k : ℕ) → at + suc k ≤ length s
+    → endsInReturn (take (suc k) (drop at s)) ≡ eqb (getD s (at + k) 0) 13
+return-at s at k h =
+    ends-by (take (suc k) (drop at s)) k (length-take-le (suc k) (drop at s) (omega (arith, length-drop at s)))
+    ∙ rw (getD-take (suc k) (drop at s) k 0 (omega arith), getD-drop at s k 0)
+
+-- blanks end in no return
+no-return : (b : ℕ) → isBlank b ≡ true → eqb b 13 ≡ false
+no-return b e = by-byte (eqb b 32) refl e
+  where
+    by-byte : (t : Bool) → eqb b 32 ≡ t → (t || eqb b 9) ≡ true → eqb b 13 ≡ false
+    by-byte true f g = ap (λ (x : ℕ). eqb x 13) (eqb-true b 32 f)
+    by-byte false f g = ap (λ (x : ℕ). eqb x 13) (eqb-true b 9 g)
+
+pub blanks-end : (l : List ℕ) → length (behind isBlank l) ≡ 0 → endsInReturn l ≡ false
+unfolding behind endsInReturn
+blanks-end [] h = refl
+blanks-end (b ∷ bs) h = by-byte (isBlank b) refl h (eqb (length bs) 0) (blanks-end bs)
+  where
+    by-byte : (t : Bool) → isBlank b ≡ t → length (cond t (behind isBlank bs) (b ∷ bs)) ≡ 0 → (u : Bool)
+        → (length (behind isBlank bs) ≡ 0 → endsInReturn bs ≡ false) → cond u (eqb b 13) (endsInReturn bs) ≡ false
+    by-byte true e h true rest = no-return b e
+    by-byte true e h false rest = rest h
+    by-byte false e h u rest = absurd (omega arith)

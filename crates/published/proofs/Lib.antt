@@ -1,0 +1,6 @@
+pub mod Parts
+pub mod InLine
+pub mod Digits
+pub mod Offsets
+pub mod LineKinds
+pub mod WholeFile

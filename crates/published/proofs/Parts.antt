@@ -1,0 +1,62 @@
+-- The bytes that pass a test, one by one from a place on.
+use mathlib.Core.Path.{_≡_, refl, sym, _∙_}
+use mathlib.Core.Bool.{Bool, true, false, true≢false}
+use mathlib.Core.List.{List, [], _∷_}
+use Prim.Native.Nat.{ℕ, _+_, _≤_, _<_}
+use native.Mathlib.Numerals.{add-one}
+use native.Mathlib.Omega.{arith}
+use lib.Dec.{eqb}
+use lib.ListN.{length, getD, drop, drop-of-length-le}
+use lib.Seq.{drop-cons}
+use Rattle.texts.specs.Ends.{untilEnd, NoEndBetween}
+use Rattle.texts.proofs.LineEnds.{passed}
+use Rattle.published.specs.LeapSecondsList.{front, behind}
+use Rattle.published.specs.Places.{Passed}
+
+-- the byte at a place inside
+module _ (test : ℕ → Bool) (s : List ℕ) (i : ℕ) (inside : i < length s) where
+  pub behind-on : test (getD s i 0) ≡ true → behind test (drop i s) ≡ behind test (drop (i + 1) s)
+  unfolding behind
+  behind-on e = rw (add-one, drop-cons s i 0 inside, e)
+
+  pub behind-here : test (getD s i 0) ≡ false → behind test (drop i s) ≡ drop i s
+  unfolding behind
+  behind-here e = rw (drop-cons s i 0 inside, e)
+
+  pub front-on : test (getD s i 0) ≡ true → front test (drop i s) ≡ getD s i 0 ∷ front test (drop (i + 1) s)
+  unfolding front
+  front-on e = rw (add-one, drop-cons s i 0 inside, e)
+
+  pub front-here : test (getD s i 0) ≡ false → front test (drop i s) ≡ []
+  unfolding front
+  front-here e = rw (drop-cons s i 0 inside, e)
+
+-- no byte is left
+pub behind-none : (test : ℕ → Bool) (s : List ℕ) (i : ℕ) → length s ≤ i → behind test (drop i s) ≡ drop i s
+unfolding behind
+behind-none test s i h = rw (drop-of-length-le s {i = i} h)
+
+pub front-none : (test : ℕ → Bool) (s : List ℕ) (i : ℕ) → length s ≤ i → front test (drop i s) ≡ []
+unfolding front
+front-none test s i h = rw (drop-of-length-le s {i = i} h)
+
+-- ---- a search for the first byte that does not pass, in one line: what is behind from `at` on is behind from i on
+abbrev pub Passing : (ℕ → Bool) → List ℕ → ℕ → ℕ → Type 0
+Passing test s at i = (behind test (drop at s) ≡ behind test (drop i s)) × NoEndBetween s at i
+
+-- a test that a line end does not pass
+module _ (test : ℕ → Bool) (in-line : test 10 ≡ false) (s : List ℕ) (at i : ℕ) (so-far : Passing test s at i) where
+  not-end : test (getD s i 0) ≡ true → getD s i 0 ≡ 10 → ⊥
+  not-end e is = true≢false (sym e ∙ rw is in-line)
+
+  pub passes-on : i < length s → test (getD s i 0) ≡ true → Passing test s at (i + 1)
+  passes-on inside e = (
+    so-far .0 ∙ behind-on test s i inside e,
+    (omega (arith, so-far .1 .0, passed s i inside (not-end e)), omega arith),
+  )
+
+  pub stops-here : i < length s → test (getD s i 0) ≡ false → Passed test s at i
+  stops-here inside e = (sym (so-far .0 ∙ behind-here test s i inside e), so-far .1)
+
+  pub stops-at-end : length s ≤ i → Passed test s at i
+  stops-at-end h = (sym (so-far .0 ∙ behind-none test s i h), so-far .1)

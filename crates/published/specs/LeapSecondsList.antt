@@ -1,0 +1,119 @@
+-- The published leap-seconds.list: what a line of it is, and the table that the whole makes.
+use mathlib.Core.Bool.{Bool, true, false, cond, _&&_, _||_}
+use mathlib.Core.List.{List, [], _∷_}
+use Prim.Native.Nat.{ℕ, suc, _+_, _^_}
+use lib.Dec.{eqb, ltb}
+use lib.ListN.{length}
+use lib.IntN.{pos, subℕ}
+use Rattle.refusals.specs.Outcome.{Outcome, answered, refused}
+use Rattle.words.specs.Decimal.{isDigit, countRead}
+use Rattle.texts.specs.Lines.{linesOf}
+use Rattle.tables.specs.Slots.{tableOf}
+use Rattle.tables.specs.declared.LeapTable.{LeapTable}
+use Rattle.records.specs.Records.{Record, recordOf, tableFrom}
+
+-- ---- parts of a line
+-- the bytes in front that pass a test
+unfoldable pub front : (ℕ → Bool) → List ℕ → List ℕ
+front test [] = []
+front test (b ∷ bs) = cond (test b) (b ∷ front test bs) []
+
+-- the bytes behind them
+unfoldable pub behind : (ℕ → Bool) → List ℕ → List ℕ
+behind test [] = []
+behind test (b ∷ bs) = cond (test b) (behind test bs) (b ∷ bs)
+
+-- the first byte passes a test; `none` where there is none
+abbrev pub begins : Bool → (ℕ → Bool) → List ℕ → Bool
+begins none test [] = none
+begins none test (b ∷ bs) = test b
+
+-- a space or a tab
+abbrev pub isBlank : ℕ → Bool
+isBlank b = eqb b 32 || eqb b 9
+
+-- the sign of a comment, `#`
+abbrev pub isHash : ℕ → Bool
+isHash b = eqb b 35
+
+-- the last byte is 13, as in a file whose lines end with CR LF
+unfoldable pub endsInReturn : List ℕ → Bool
+endsInReturn [] = false
+endsInReturn (b ∷ bs) = cond (eqb (length bs) 0) (eqb b 13) (endsInReturn bs)
+
+-- ---- a line
+-- a comment or blanks; a record; or neither
+pub data Line : Type 0 where
+  passes : Line
+  holds : Record → Line
+  malformed : Line
+
+-- a number of 31 bits; 12 where there is none
+abbrev pub in31Bits : Outcome ℕ → Outcome ℕ
+in31Bits (answered n) = cond (ltb n (2 ^ 31)) (answered n) (refused 12)
+in31Bits (refused k) = refused 12
+
+-- the rest of a line behind the NTP seconds: one or more blanks, the offset, any blanks, perhaps a comment
+abbrev pub offsetRead : List ℕ → Outcome ℕ
+offsetRead rest =
+    cond (begins false isBlank rest && begins true isHash (behind isBlank (behind isDigit (behind isBlank rest))))
+    (in31Bits (countRead (front isDigit (behind isBlank rest)))) (refused 12)
+
+-- NTP seconds are counted from 1900: 2,524,953,600 of them up to 1980-01-06
+abbrev pub recordAt : ℕ → ℕ → Record
+recordAt ntp n = recordOf (subℕ (ntp + n) 2_524_953_600) (pos n)
+
+abbrev pub lineWith : Outcome ℕ → Outcome ℕ → Line
+lineWith (answered ntp) (answered n) = holds (recordAt ntp n)
+lineWith (answered ntp) (refused k) = malformed
+lineWith (refused k) n = malformed
+
+abbrev pub lineRead : List ℕ → Line
+lineRead l =
+    cond (endsInReturn l) malformed
+    (cond (begins false isHash l || eqb (length (behind isBlank l)) 0) passes
+    (lineWith (countRead (front isDigit l)) (offsetRead (behind isDigit l))))
+
+-- ---- the file
+-- the number of the first malformed line, where the first line is number k; 0 where there is none
+abbrev pub numberIf : ℕ → Line → ℕ → ℕ
+numberIf k passes rest = rest
+numberIf k (holds r) rest = rest
+numberIf k malformed rest = k
+
+unfoldable pub firstMalformed : ℕ → List (List ℕ) → ℕ
+firstMalformed k [] = 0
+firstMalformed k (l ∷ ls) = numberIf k (lineRead l) (firstMalformed (suc k) ls)
+
+-- the records of lines, in their order
+abbrev pub withRecord : Line → List Record → List Record
+withRecord passes rs = rs
+withRecord (holds r) rs = r ∷ rs
+withRecord malformed rs = rs
+
+unfoldable pub recordsIn : List (List ℕ) → List Record
+recordsIn [] = []
+recordsIn (l ∷ ls) = withRecord (lineRead l) (recordsIn ls)
+
+-- what the reader answers: a number, 0 with a table; the number of a malformed line, or 0; the table, or the one with no
+-- entry
+pub record Reading : Type 0 where
+  pub number : ℕ
+  pub line : ℕ
+  pub table : LeapTable
+
+abbrev pub reading : ℕ → ℕ → LeapTable → Reading
+reading k n t = record { number = k; line = n; table = t }
+
+abbrev pub ofRecords : ℕ × LeapTable → Reading
+ofRecords x = reading (x .0) 0 (x .1)
+
+-- 12 with the first malformed line, 12 where no record has offset 19, then as the records
+abbrev pub ofLines : List (List ℕ) → Reading
+ofLines ls =
+    cond (eqb (firstMalformed 1 ls) 0) (ofRecords (tableFrom 12 (recordsIn ls)))
+    (reading 12 (firstMalformed 1 ls) (tableOf []))
+
+-- a file of at most 65,536 bytes
+abbrev pub listRead : List ℕ → Reading
+listRead bs = cond (ltb 65_536 (length bs)) (reading 12 0 (tableOf [])) (ofLines (linesOf bs))

@@ -1,0 +1,2 @@
+pub mod LeapSecondsList
+pub mod Places

@@ -1,0 +1,67 @@
+-- What the parts of the reader find, and where. Only contracts of functions in `inner` cite it.
+use mathlib.Core.Path.{_≡_}
+use mathlib.Core.Bool.{Bool, cond}
+use mathlib.Core.List.{List}
+use Prim.Native.Nat.{ℕ, _+_, _<_, _≤_, _^_}
+use lib.ListN.{length, take, drop}
+use lib.IntN.{natAbs}
+use Rattle.refusals.specs.Outcome.{Outcome, answered, refused}
+use Rattle.words.specs.Decimal.{isDigit, countRead}
+use Rattle.texts.specs.Ends.{untilEnd, NoEndBetween}
+use Rattle.tables.specs.Answers.{takenIn}
+use Rattle.records.specs.Records.{event}
+use Rattle.records.specs.Seconds.{recordIn}
+use Rattle.published.specs.LeapSecondsList.{Line, passes, holds, malformed, front, behind, offsetRead, lineRead, Reading, reading}
+use Rattle.published.specs.declared.ListAnswer.{ListAnswer}
+use Rattle.published.specs.declared.inner.NumberRead.{NumberRead}
+use Rattle.published.specs.declared.inner.NumberRead.the-variants as number
+use Rattle.published.specs.declared.inner.OffsetRead.{OffsetRead}
+use Rattle.published.specs.declared.inner.OffsetRead.the-variants as offset
+use Rattle.published.specs.declared.inner.LineRead.{LineRead}
+use Rattle.published.specs.declared.inner.LineRead.the-variants as line
+
+-- the line at the start of a text
+abbrev pub firstLine : List ℕ → List ℕ
+firstLine s = take (untilEnd s) s
+
+-- from `at` to i stand the bytes that pass a test, in one line
+abbrev pub Passed : (ℕ → Bool) → List ℕ → ℕ → ℕ → Type 0
+Passed test s at i = (drop i s ≡ behind test (drop at s)) × NoEndBetween s at i
+
+-- a number that is read; 12 where there is none
+abbrev pub in64Bits : Outcome ℕ → Outcome ℕ
+in64Bits (answered n) = answered n
+in64Bits (refused k) = refused 12
+
+-- a number, and where it ends
+abbrev pub numberFound : NumberRead → Outcome ℕ
+numberFound (number.Number n i) = answered n
+numberFound number.Malformed = refused 12
+
+abbrev pub NumberEnds : List ℕ → ℕ → NumberRead → Type 0
+NumberEnds s at (number.Number n i) = Passed isDigit s at i × (n < 2 ^ 64)
+NumberEnds s at number.Malformed = Unit {0}
+
+-- an offset, and a place behind it in the same line
+abbrev pub offsetFound : OffsetRead → Outcome ℕ
+offsetFound (offset.Offset n used) = answered n
+offsetFound offset.Malformed = refused 12
+
+abbrev pub OffsetEnds : List ℕ → OffsetRead → Type 0
+OffsetEnds s (offset.Offset n used) = (NoEndBetween s 0 used) × (n < 2 ^ 31)
+OffsetEnds s offset.Malformed = Unit {0}
+
+-- what a line is
+abbrev pub lineFound : LineRead → Line
+lineFound (line.Passes end) = passes
+lineFound (line.Holds r end) = holds (recordIn r)
+lineFound line.Malformed = malformed
+
+-- and where it ends
+abbrev pub LineEnds : List ℕ → ℕ → LineRead → Type 0
+LineEnds s at (line.Passes end) = end ≡ at + untilEnd (drop at s)
+LineEnds s at (line.Holds r end) = (end ≡ at + untilEnd (drop at s)) × (natAbs (event (recordIn r)) < 2 ^ 64)
+LineEnds s at line.Malformed = Unit {0}
+
+abbrev pub readingIn : ListAnswer → Reading
+readingIn x = reading (takenIn (x .answer)) (x .line) (x .table)

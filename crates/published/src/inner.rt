@@ -1,0 +1,314 @@
+// The parts of a list where they stand in the file. Nothing is copied, and a byte is looked at once, but the last of a
+// line, which is looked at again where the line may end in a carriage return.
+ghost use mathlib.Core.Path.{_≡_};
+ghost use mathlib.Core.Bool.{true, false, cond};
+ghost use mathlib.Core.List.{[]};
+ghost use Prim.Native.Nat.{_-_, _≤_, _<_, _^_};
+ghost use lib.Dec.{eqb};
+ghost use lib.IntN.{natAbs};
+ghost use lib.ListN.{length, getD, take, drop};
+ghost use Rattle.words.specs.Decimal.{isDigit, countRead};
+ghost use Rattle.texts.specs.Lines.{linesOf};
+ghost use Rattle.texts.specs.Ends.{untilEnd};
+ghost use Rattle.tables.specs.Slots.{tableOf};
+ghost use Rattle.records.specs.Records.{event};
+ghost use Rattle.records.specs.Seconds.{recordIn};
+ghost use Rattle.published.specs.LeapSecondsList.{front, isBlank, endsInReturn, offsetRead, recordAt, lineRead};
+ghost use Rattle.published.specs.LeapSecondsList.{reading, ofLines, firstMalformed, recordsIn};
+ghost use Rattle.published.specs.Places.{firstLine, Passed, numberFound, NumberEnds, offsetFound, OffsetEnds};
+ghost use Rattle.published.specs.Places.{lineFound, LineEnds, readingIn, in64Bits};
+use crate::ListAnswer;
+use counts::units::LARGEST_COUNT;
+use records::inner::LeapRecord;
+use records::inner::seconds::difference;
+use refusals::Refusal;
+use tables::LeapTable;
+use tables::Taken;
+use texts::inner::LINE_END;
+use texts::inner::next_end;
+use words::inner::digits::digit;
+
+const RETURN: u8 = 13;
+
+const MOST_DIGITS: usize = 20;
+
+// NTP seconds up to 1980-01-06, where TAI counts begin.
+const NTP_SECONDS_TO_1980: u64 = 2_524_953_600;
+
+const LARGEST_OFFSET: u64 = i32::MAX as u64;
+
+// A number and the place behind it.
+pub enum NumberRead {
+    Number(u64, usize),
+    Malformed,
+}
+
+// An offset and the place where the blanks behind it end.
+pub enum OffsetRead {
+    Offset(u64, usize),
+    Malformed,
+}
+
+// A comment or a blank line, or a line with a record, and where the line ends.
+pub enum LineRead {
+    Passes(usize),
+    Holds(LeapRecord, usize),
+    Malformed,
+}
+
+fn is_blank(b: u8) -> bool
+    ensures { λ r. ⌜ r ≡ isBlank b ⌝ }
+{
+    (b == b' ') | (b == b'\t')
+}
+
+fn is_digit(b: u8) -> bool
+    ensures { λ r. ⌜ r ≡ isDigit b ⌝ }
+{
+    (b'0' <= b) & (b <= b'9')
+}
+
+// The place where the blanks from `at` on end.
+fn skip_blanks(s: &[u8], at: usize) -> usize
+    requires { ⌜ at ≤ length (now s) ⌝ }
+    ensures { λ r. ⌜ Passed isBlank (now (s .entry)) at r ⌝ }
+{
+    let mut i = at;
+    while i < s.len() {
+        if !is_blank(s[i]) {
+            return i;
+        }
+        i += 1;
+    }
+    i
+}
+
+// The number of 64 bits in 1 to 20 digits from `at` on.
+fn read_number(s: &[u8], at: usize) -> NumberRead
+    requires { ⌜ at ≤ length (now s) ⌝ }
+    ensures is { λ r. ⌜ numberFound r ≡ in64Bits (countRead (front isDigit (drop at (now (s .entry))))) ⌝ }
+    ensures ends { λ r. ⌜ NumberEnds (now (s .entry)) at r ⌝ }
+{
+    let mut value: u64 = 0;
+    let mut i = at;
+    while i < s.len() {
+        let b = s[i];
+        if !is_digit(b) {
+            return number_to(value, at, i);
+        }
+        if i - at == MOST_DIGITS {
+            return NumberRead::Malformed;
+        }
+        let digit = digit(b);
+        if value > LARGEST_COUNT / 10 {
+            return NumberRead::Malformed;
+        }
+        if digit > LARGEST_COUNT - value * 10 {
+            return NumberRead::Malformed;
+        }
+        value = value * 10 + digit;
+        i += 1;
+    }
+    number_to(value, at, i)
+}
+
+// The number of the digits from `at` to `i`; there has to be one.
+fn number_to(value: u64, at: usize, i: usize) -> NumberRead
+    ensures { λ r. ⌜ r ≡ cond (eqb i at) NumberRead.Malformed (NumberRead.Number value i) ⌝ }
+{
+    if i == at {
+        NumberRead::Malformed
+    } else {
+        NumberRead::Number(value, i)
+    }
+}
+
+// The offset in what follows the NTP seconds of a line: one or more blanks, the offset, any blanks, and then the end of
+// the line or a comment.
+fn read_offset(rest: &[u8]) -> OffsetRead
+    ensures is { λ r. ⌜ offsetFound r ≡ offsetRead (firstLine (now (rest .entry))) ⌝ }
+    ensures ends { λ r. ⌜ OffsetEnds (now (rest .entry)) r ⌝ }
+{
+    if rest.len() == 0 {
+        return OffsetRead::Malformed;
+    }
+    if !is_blank(rest[0]) {
+        return OffsetRead::Malformed;
+    }
+    let start = skip_blanks(rest, 0);
+    let NumberRead::Number(offset, behind) = read_number(rest, start) else {
+        return OffsetRead::Malformed;
+    };
+    if LARGEST_OFFSET < offset {
+        return OffsetRead::Malformed;
+    }
+    let stop = skip_blanks(rest, behind);
+    if stop == rest.len() {
+        return OffsetRead::Offset(offset, stop);
+    }
+    let b = rest[stop];
+    if (b == b'#') | (b == LINE_END) {
+        OffsetRead::Offset(offset, stop)
+    } else {
+        OffsetRead::Malformed
+    }
+}
+
+// The record of an NTP second and the offset from then on.
+fn record_at(ntp: u64, offset: u64) -> LeapRecord
+    requires { ⌜ offset < 2 ^ 31 ⌝ }
+    ensures is { λ r. ⌜ recordIn r ≡ recordAt ntp offset ⌝ }
+    ensures fits { λ r. ⌜ natAbs (event (recordIn r)) < 2 ^ 64 ⌝ }
+{
+    LeapRecord {
+        threshold: difference(ntp, NTP_SECONDS_TO_1980 - offset),
+        offset: offset as i32,
+    }
+}
+
+// Whether the line from `at` to `end`, which is not empty, ends in a carriage return.
+fn ends_in_return(s: &[u8], at: usize, end: usize) -> bool
+    requires { ⌜ at < end ⌝ }
+    requires { ⌜ end ≤ length (now s) ⌝ }
+    ensures { λ r. ⌜ r ≡ endsInReturn (take (end - at) (drop at (now (s .entry)))) ⌝ }
+{
+    s[end - 1] == RETURN
+}
+
+// A line from `at` on that begins with the sign of a comment.
+fn read_comment(s: &[u8], at: usize) -> LineRead
+    requires { ⌜ at < length (now s) ⌝ }
+    requires { ⌜ getD (now s) at 0 ≡ 35 ⌝ }
+    ensures is { λ r. ⌜ lineFound r ≡ lineRead (firstLine (drop at (now (s .entry)))) ⌝ }
+    ensures ends { λ r. ⌜ LineEnds (now (s .entry)) at r ⌝ }
+{
+    let end = next_end(s, at);
+    if ends_in_return(s, at, end) {
+        LineRead::Malformed
+    } else {
+        LineRead::Passes(end)
+    }
+}
+
+// A line that begins with a blank, or is empty.
+fn read_blanks(s: &[u8], at: usize) -> LineRead
+    requires { ⌜ at < length (now s) ⌝ }
+    requires { ⌜ isDigit (getD (now s) at 0) ≡ false ⌝ }
+    requires { ⌜ eqb (getD (now s) at 0) 35 ≡ false ⌝ }
+    ensures is { λ r. ⌜ lineFound r ≡ lineRead (firstLine (drop at (now (s .entry)))) ⌝ }
+    ensures ends { λ r. ⌜ LineEnds (now (s .entry)) at r ⌝ }
+{
+    let end = skip_blanks(s, at);
+    if end == s.len() {
+        return LineRead::Passes(end);
+    }
+    if s[end] == LINE_END {
+        LineRead::Passes(end)
+    } else {
+        LineRead::Malformed
+    }
+}
+
+// A line that begins with a digit. What stands behind the NTP seconds goes to the reader of the offset, and the place
+// where that one stopped is added to the place where it began.
+fn read_data(s: &[u8], at: usize) -> LineRead
+    requires { ⌜ at < length (now s) ⌝ }
+    requires { ⌜ isDigit (getD (now s) at 0) ≡ true ⌝ }
+    ensures is { λ r. ⌜ lineFound r ≡ lineRead (firstLine (drop at (now (s .entry)))) ⌝ }
+    ensures ends { λ r. ⌜ LineEnds (now (s .entry)) at r ⌝ }
+{
+    let NumberRead::Number(ntp, behind) = read_number(s, at) else {
+        return LineRead::Malformed;
+    };
+    let OffsetRead::Offset(offset, used) = read_offset(&s[behind..]) else {
+        return LineRead::Malformed;
+    };
+    let end = next_end(s, behind + used);
+    if ends_in_return(s, at, end) {
+        LineRead::Malformed
+    } else {
+        LineRead::Holds(record_at(ntp, offset), end)
+    }
+}
+
+// The line from `at` on, by its first byte.
+pub fn read_line(s: &[u8], at: usize) -> LineRead
+    requires { ⌜ at < length (now s) ⌝ }
+    ensures is { λ r. ⌜ lineFound r ≡ lineRead (firstLine (drop at (now (s .entry)))) ⌝ }
+    ensures ends { λ r. ⌜ LineEnds (now (s .entry)) at r ⌝ }
+{
+    let b = s[at];
+    if b == b'#' {
+        return read_comment(s, at);
+    }
+    if is_digit(b) {
+        read_data(s, at)
+    } else {
+        read_blanks(s, at)
+    }
+}
+
+// A refusal of the form at a line, or at none, with the empty table.
+pub fn refused_at(line: usize) -> ListAnswer
+    ensures { λ r. ⌜ readingIn r ≡ reading 12 line (tableOf []) ⌝ }
+{
+    let answer = Taken::Refused(Refusal::BadList);
+    ListAnswer {
+        answer,
+        line,
+        table: LeapTable::new(),
+    }
+}
+
+// The table of a list that is not too long.
+pub fn read_lines(s: &[u8]) -> ListAnswer
+    requires { ⌜ length (now s) ≤ 65536 ⌝ }
+    ensures { λ r. ⌜ readingIn r ≡ ofLines (linesOf (now (s .entry))) ⌝ }
+{
+    let mut thresholds = [0u64; 64];
+    let mut offsets = [0i32; 64];
+    let mut seen = records::inner::begin();
+    let mut line: usize = 1;
+    let mut at: usize = 0;
+    while at < s.len() {
+        let here = line;
+        let read = read_line(s, at);
+        line += 1;
+        match read {
+            LineRead::Malformed => return refused_at(here),
+            LineRead::Passes(end) => at = end + 1,
+            LineRead::Holds(given, end) => {
+                seen = records::inner::take(&mut thresholds, &mut offsets, seen, given);
+                at = end + 1;
+            }
+        }
+    }
+    let made = records::inner::finish(thresholds, offsets, seen, Refusal::BadList);
+    let answer = made.answer;
+    let table = made.table;
+    ListAnswer {
+        answer,
+        line: 0,
+        table,
+    }
+}
+
+// How many lines hold a record, up to the first malformed one.
+pub fn data_lines(s: &[u8]) -> usize
+    requires { ⌜ length (now s) ≤ 65536 ⌝ }
+    ensures { λ r. ⌜ (firstMalformed 1 (linesOf (now (s .entry))) ≡ 0 → r ≡ length (recordsIn (linesOf (now (s .entry))))) ⌝ }
+{
+    let mut found: usize = 0;
+    let mut at: usize = 0;
+    while at < s.len() {
+        match read_line(s, at) {
+            LineRead::Malformed => return found,
+            LineRead::Passes(end) => at = end + 1,
+            LineRead::Holds(_, end) => {
+                found += 1;
+                at = end + 1;
+            }
+        }
+    }
+    found
+}
