@@ -6,6 +6,7 @@ use Prim.Native.Nat.{ℕ}
 use lib.IntN.{pos}
 use Rattle.tables.specs.Entries.{Entry, entry}
 use Rattle.images.specs.Image.{sized, imageOf, builtFrom}
+use Rattle.published.specs.LeapSecondsList.{Reading, listRead}
 
 -- the number that a call gives, and the bytes that it leaves
 abbrev pub leaves : ℕ → List ℕ → ℕ × List ℕ
@@ -15,6 +16,22 @@ leaves k b = (k, b)
 -- image
 abbrev pub imageBuilt : List ℕ → List ℕ → ℕ × List ℕ
 imageBuilt entries b = cond (sized b) (builtFrom entries .0, imageOf (builtFrom entries .1)) (8, b)
+
+-- reading a list into an image: the number, the line, and the image of the table made; 8, 0 and the bytes as they were
+-- where they are no image
+pub record ListLeft : Type 0 where
+  pub number : ℕ
+  pub line : ℕ
+  pub image : List ℕ
+
+abbrev pub listLeft : ℕ → ℕ → List ℕ → ListLeft
+listLeft k n b = record { number = k; line = n; image = b }
+
+abbrev pub leftOf : Reading → ListLeft
+leftOf r = listLeft (r .number) (r .line) (imageOf (r .table))
+
+abbrev pub imageListed : List ℕ → List ℕ → ListLeft
+imageListed bytes b = cond (sized b) (leftOf (listRead bytes)) (listLeft 8 0 b)
 
 -- a yes or no as a number
 abbrev pub bit : Bool → ℕ

@@ -29,6 +29,7 @@ mod give;
 pub mod glonass_days;
 pub mod gps_tai;
 pub mod leap_events;
+pub mod leap_files;
 pub mod leap_lists;
 pub mod leap_tables;
 pub mod utc_unix;
