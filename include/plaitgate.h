@@ -54,7 +54,9 @@ enum plaitgate_refusal {
     /* a program's line breaks its form; no function here gives it */
     PLAITGATE_BAD_LINE = 10,
     /* nanoseconds of 1000000000 or more in a second */
-    PLAITGATE_INVALID_NANOS = 11
+    PLAITGATE_INVALID_NANOS = 11,
+    /* a leap-seconds.list that is too long, has a malformed line, or no line with the offset 19 */
+    PLAITGATE_BAD_LIST = 12
 };
 
 /* every scale, by tools/write-scales */
@@ -536,6 +538,23 @@ uint32_t plaitgate_table_from_builtin(uint8_t *image, size_t image_bytes);
    entry. */
 uint32_t plaitgate_table_from_entries(const uint8_t *entries, size_t entries_bytes, uint8_t *image,
                                       size_t image_bytes);
+
+/* Reads a leap-seconds.list as the IERS publishes it, the bytes of the whole file, and writes the image of its table.
+   A line that begins with # is a comment; a line of blanks (spaces and tabs) or of nothing is passed over; every other
+   line is the NTP second at which an offset begins, blanks, and the offset, and may have blanks and a comment behind.
+   The first line with the offset 19 becomes the entry (0, 19); lines before it are checked and dropped; each line after
+   it becomes an entry, whose threshold is its NTP second less 2524953600 s, plus the offset. `line` is the number of
+   the first malformed line, from 1 on with comments and blank lines counted; it is 0 where no line is malformed, and
+   where the file is too long to be read. Lines end with LF; a line that ends with CR is malformed, so that a file with
+   CR LF is refused at line 1.
+   Refuses with 8 where there are not PLAITGATE_IMAGE_BYTES bytes for the image, and leaves them as they were. Else
+   refuses, in this order: with 12 where there are more than 65536 bytes, where a line is malformed, or where lines have
+   offsets and none is 19; with 6 where no line has an offset; with 1 where a threshold is above 64 bits of nanoseconds;
+   with 5 where there are more than 64 entries; then for the first line that cannot follow the one before it, as
+   plaitgate_table_from_entries, where lines up to the first 19 are compared by their NTP seconds. On these refusals the
+   image is that of the table with no entry. */
+uint32_t plaitgate_read_leap_list(const uint8_t *list, size_t list_bytes, uint8_t *image, size_t image_bytes,
+                                  uint64_t *line);
 
 /* Joins an entry to the table in an image, at its end; a table with no entry takes any. Refuses with 8 where the image
    holds no valid table, with 5 where it has 64 entries, with 3 where the threshold is not above the last, with 7 where

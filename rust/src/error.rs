@@ -1,6 +1,7 @@
 //! Why a call was refused.
 
 use core::fmt;
+use core::num::NonZeroU64;
 
 /// Makes the enum of the refusals, their numbers and their words out of rows:
 /// number, name, when it is given, and what it says to a user.
@@ -92,10 +93,74 @@ refusals! {
     11 InvalidNanos:
         "the nanoseconds of a second reach 1,000,000,000.",
         "the nanoseconds are out of range: a second has 1,000,000,000";
+    12 BadList:
+        "a leap-seconds.list is too long, has a malformed line, or no line with the offset 19.",
+        "the leap-seconds.list is too long, has a malformed line, or no line with the offset 19";
 }
 
 /// What a call that may refuse gives back.
 pub type Result<T, E = Error> = core::result::Result<T, E>;
 
+/// Why a leap-seconds.list was refused: the refusal, and the line where one is malformed.
+///
+/// ```
+/// use plaitgate::{Error, LeapTable};
+///
+/// let refused = LeapTable::from_leap_seconds_list(b"# two lines\n2524521600, 19\n").unwrap_err();
+/// assert_eq!((refused.error(), refused.line()), (Error::BadList, Some(2)));
+/// assert_eq!(refused.to_string(), "line 2 is malformed");
+///
+/// let refused = LeapTable::from_leap_seconds_list(b"# no offset\n").unwrap_err();
+/// assert_eq!((refused.error(), refused.line()), (Error::EmptyTable, None));
+/// ```
+#[derive(Debug, Clone, Copy, PartialEq, Eq, Hash)]
+pub struct ListError {
+    error: Error,
+    line: Option<NonZeroU64>,
+}
+
+impl ListError {
+    /// The refusal, and the line as the library gives it: 0 where no line is malformed.
+    pub(crate) const fn new(error: Error, line: u64) -> Self {
+        ListError { error, line: NonZeroU64::new(line) }
+    }
+
+    /// The refusal.
+    #[must_use]
+    pub const fn error(self) -> Error {
+        self.error
+    }
+
+    /// The number of the first malformed line, from 1 on, with comments and blank lines counted; none where every line
+    /// is well formed, and where the list is too long to be read.
+    #[must_use]
+    pub const fn line(self) -> Option<u64> {
+        match self.line {
+            Some(line) => Some(line.get()),
+            None => None,
+        }
+    }
+}
+
+impl fmt::Display for ListError {
+    fn fmt(&self, f: &mut fmt::Formatter<'_>) -> fmt::Result {
+        match (self.line, self.error) {
+            (Some(line), _) => write!(f, "line {line} is malformed"),
+            (None, Error::BadList) => f.write_str("the list has more than 65,536 bytes, or no line with the offset 19"),
+            (None, error) => error.fmt(f),
+        }
+    }
+}
+
+/// The refusal, without the line.
+impl From<ListError> for Error {
+    fn from(refused: ListError) -> Self {
+        refused.error
+    }
+}
+
 #[cfg(feature = "std")]
 impl std::error::Error for Error {}
+
+#[cfg(feature = "std")]
+impl std::error::Error for ListError {}

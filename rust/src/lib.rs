@@ -50,7 +50,7 @@ pub use civil::{CivilDate, CivilDateTime};
 pub use convert::{glonass_to_gps, glonass_to_utc, gps_to_glonass, gps_to_utc, utc_to_glonass, utc_to_gps};
 pub use duration::{Duration, DurationParts};
 pub use epoch::*;
-pub use error::{Error, Result};
+pub use error::{Error, ListError, Result};
 pub use list::LeapList;
 pub use scale::{Beidou, Galileo, Glonass, Gps, Tai, Utc};
 pub use shifted::{beidou_to_glonass, beidou_to_utc, glonass_to_beidou, utc_to_beidou};

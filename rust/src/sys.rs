@@ -6,7 +6,7 @@
 // In the macros a single result stands in parentheses, as several do.
 #![allow(dead_code, unused_parens)]
 
-use crate::{Error, Result};
+use crate::{Error, ListError, Result};
 
 #[cfg(test)]
 mod tests;
@@ -295,7 +295,7 @@ of_numbers! { declared_of_two_shifted_scales:
     beidou_to_galileo(beidou: u64) -> (galileo: u64);
 }
 
-/// The four functions that write an image.
+/// The five functions that write an image.
 mod writing {
     extern "C" {
         pub fn plaitgate_table_new(image: *mut u8, image_bytes: usize) -> u32;
@@ -305,6 +305,13 @@ mod writing {
             entries_bytes: usize,
             image: *mut u8,
             image_bytes: usize,
+        ) -> u32;
+        pub fn plaitgate_read_leap_list(
+            list: *const u8,
+            list_bytes: usize,
+            image: *mut u8,
+            image_bytes: usize,
+            line: *mut u64,
         ) -> u32;
         pub fn plaitgate_table_try_extend(
             image: *mut u8,
@@ -337,6 +344,17 @@ pub fn table_from_entries(entries: &[u8]) -> Result<Image> {
         writing::plaitgate_table_from_entries(entries.as_ptr(), entries.len(), image.as_mut_ptr(), image.len())
     };
     answer(number, image)
+}
+
+pub fn read_leap_list(list: &[u8]) -> Result<Image, ListError> {
+    let mut image = [0; IMAGE_BYTES];
+    let mut line = 0;
+    // SAFETY: the list is lent, and the image and the line are this function's own, so that they do not overlap; list
+    // and image have as many bytes as are said, and all outlive the call. A slice's pointer is never null.
+    let number = unsafe {
+        writing::plaitgate_read_leap_list(list.as_ptr(), list.len(), image.as_mut_ptr(), image.len(), &mut line)
+    };
+    answer(number, image).map_err(|error| ListError::new(error, line))
 }
 
 pub fn table_try_extend(image: &mut Image, tai_nanos: u64, tai_minus_utc: i32) -> Result<()> {

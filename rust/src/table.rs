@@ -1,7 +1,7 @@
 //! Leap-second tables: the rack's own, and the built-in one.
 
 use crate::sys::{self, always, Image, ENTRY_BYTES, IMAGE_BYTES};
-use crate::{CivilDate, Result, Tai};
+use crate::{CivilDate, ListError, Result, Tai};
 use core::fmt;
 
 /// How many entries a table has room for.
@@ -116,6 +116,37 @@ impl LeapTable {
         let places = list.chunks_exact_mut(ENTRY_BYTES);
         places.zip(entries).for_each(|(place, entry)| place.copy_from_slice(&entry.to_bytes()));
         let image = sys::table_from_entries(&list[..entries.len().min(MOST) * ENTRY_BYTES])?;
+        Ok(LeapTable { image })
+    }
+
+    /// The table of a leap-seconds.list as the IERS publishes it, from the bytes of the whole file.
+    ///
+    /// A line that begins with `#` is a comment; a line of spaces and tabs, or of nothing, is passed over; every other
+    /// line is the NTP second at which an offset begins, and the offset, and may have a comment behind. The first line
+    /// with the offset 19 becomes the entry (0, 19), and each line after it an entry; lines before it are checked and
+    /// dropped. The file's expiry date and hash code stand in comments, and are not checked.
+    ///
+    /// ```
+    /// use plaitgate::{LeapEntry, LeapTable};
+    ///
+    /// let list = b"# NTP second, TAI minus UTC\n2524521600 19 # 1 Jan 1980\n2571782400 20 # 1 Jul 1981\n";
+    /// let table = LeapTable::from_leap_seconds_list(list)?;
+    /// assert_eq!(table.entry(0), Some(LeapEntry::new(0, 19)));
+    /// assert_eq!(table.entry(1), Some(LeapEntry::new(46_828_820_000_000_000, 20)));
+    ///
+    /// let refused = LeapTable::from_leap_seconds_list(b"# NTP second, TAI minus UTC\n2524521600 19s\n").unwrap_err();
+    /// assert_eq!(refused.line(), Some(2));
+    /// # Ok::<(), plaitgate::ListError>(())
+    /// ```
+    ///
+    /// Refuses, in this order: with [`BadList`](crate::Error::BadList) where there are more than 65,536 bytes, where a
+    /// line is malformed, which is named, or where lines have offsets and none is 19; with
+    /// [`EmptyTable`](crate::Error::EmptyTable) where no line has an offset; with
+    /// [`Overflow`](crate::Error::Overflow) where a threshold is no count; with [`BufferFull`](crate::Error::BufferFull) for more than 64 entries; then for the first line
+    /// that cannot follow the one before it, as [`try_extend`](LeapTable::try_extend), where lines up to the first 19
+    /// are compared by their NTP seconds. A line that ends with CR is malformed: a file with CR LF is refused at line 1.
+    pub fn from_leap_seconds_list(bytes: &[u8]) -> Result<Self, ListError> {
+        let image = sys::read_leap_list(bytes)?;
         Ok(LeapTable { image })
     }
 

@@ -33,6 +33,7 @@ fn declared_here() -> BTreeSet<String> {
         ("table_new", "uint8_t *, size_t"),
         ("table_from_builtin", "uint8_t *, size_t"),
         ("table_from_entries", "const uint8_t *, size_t, uint8_t *, size_t"),
+        ("read_leap_list", "const uint8_t *, size_t, uint8_t *, size_t, uint64_t *"),
         ("table_try_extend", "uint8_t *, size_t, uint64_t, int32_t"),
     ];
     let writing = writing.into_iter().map(|(name, types)| declaration(name, &[types.to_string()]));
