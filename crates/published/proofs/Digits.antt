@@ -14,10 +14,10 @@ use Rattle.words.specs.Decimal.{isDigit, allDigits, valueFrom, valueOf, countRe
 use Rattle.words.proofs.Reading.{grows, is-count}
 use Rattle.words.proofs.WayBack.{first-half}
 use Rattle.published.specs.LeapSecondsList.{front}
-use Rattle.published.specs.Places.{Passed, in64Bits, numberFound, NumberEnds}
+use Rattle.published.specs.Places.{Passed, digits, ReadTo, in64Bits, numberFound, NumberEnds}
 use Rattle.published.specs.declared.inner.NumberRead.{NumberRead}
 use Rattle.published.specs.declared.inner.NumberRead.the-variants as number
-use Rattle.published.proofs.Parts.{front-on, front-here, front-none, Passing, passes-on, stops-here, stops-at-end}
+use Rattle.published.proofs.Parts.{front-on, passes-on}
 
 digits-in-front : (s : List ℕ) → allDigits (front isDigit s) ≡ true
 unfolding front
@@ -31,19 +31,6 @@ digits-in-front (b ∷ s) = by-byte (isDigit b) refl (digits-in-front s)
 
 pub from-zero : (b : ℕ) → isDigit b ≡ true → 48 ≤ b
 from-zero b e = leb-true 48 b (first-half (leb 48 b) (leb b 57) e)
-
--- the digits from `at` on
-abbrev digits : List ℕ → ℕ → List ℕ
-digits s at = front isDigit (drop at s)
-
--- those from i on say, after `value`, what all of them say
-pub record ReadTo (s : List ℕ) (at value i : ℕ) : Type 0 where
-  pub says : valueOf (digits s at) ≡ valueFrom value (digits s i)
-  pub long : length (digits s at) + at ≡ length (digits s i) + i
-  pub from : at ≤ i
-  pub few : i ≤ at + 20
-  pub small : value < 2 ^ 64
-  pub passing : Passing isDigit s at i
 
 pub none-read : (s : List ℕ) (at : ℕ) → at ≤ length s → ReadTo s at 0 at
 none-read s at h = record {

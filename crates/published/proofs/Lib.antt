@@ -4,3 +4,4 @@ pub mod Digits
 pub mod Offsets
 pub mod LineKinds
 pub mod WholeFile
+pub mod Examples

@@ -11,7 +11,7 @@ use lib.Seq.{drop-cons}
 use Rattle.texts.specs.Ends.{untilEnd, NoEndBetween}
 use Rattle.texts.proofs.LineEnds.{passed}
 use Rattle.published.specs.LeapSecondsList.{front, behind}
-use Rattle.published.specs.Places.{Passed}
+use Rattle.published.specs.Places.{Passed, Passing}
 
 -- the byte at a place inside
 module _ (test : ℕ → Bool) (s : List ℕ) (i : ℕ) (inside : i < length s) where
@@ -40,10 +40,7 @@ pub front-none : (test : ℕ → Bool) (s : List ℕ) (i : ℕ) → length s ≤
 unfolding front
 front-none test s i h = rw (drop-of-length-le s {i = i} h)
 
--- ---- a search for the first byte that does not pass, in one line: what is behind from `at` on is behind from i on
-abbrev pub Passing : (ℕ → Bool) → List ℕ → ℕ → ℕ → Type 0
-Passing test s at i = (behind test (drop at s) ≡ behind test (drop i s)) × NoEndBetween s at i
-
+-- ---- a search for the first byte that does not pass, in one line
 -- a test that a line end does not pass
 module _ (test : ℕ → Bool) (in-line : test 10 ≡ false) (s : List ℕ) (at i : ℕ) (so-far : Passing test s at i) where
   not-end : test (getD s i 0) ≡ true → getD s i 0 ≡ 10 → ⊥

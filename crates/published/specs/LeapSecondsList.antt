@@ -63,11 +63,13 @@ offsetRead rest =
 abbrev pub recordAt : ℕ → ℕ → Record
 recordAt ntp n = recordOf (subℕ (ntp + n) 2_524_953_600) (pos n)
 
+-- a line with two numbers, where both are read
 abbrev pub lineWith : Outcome ℕ → Outcome ℕ → Line
 lineWith (answered ntp) (answered n) = holds (recordAt ntp n)
 lineWith (answered ntp) (refused k) = malformed
 lineWith (refused k) n = malformed
 
+-- a comment begins with `#`; a line of blanks may be empty; any other line is data, which begins with its first digit
 abbrev pub lineRead : List ℕ → Line
 lineRead l =
     cond (endsInReturn l) malformed

@@ -6,7 +6,7 @@ use Prim.Native.Nat.{ℕ, _+_, _<_, _≤_, _^_}
 use lib.ListN.{length, take, drop}
 use lib.IntN.{natAbs}
 use Rattle.refusals.specs.Outcome.{Outcome, answered, refused}
-use Rattle.words.specs.Decimal.{isDigit, countRead}
+use Rattle.words.specs.Decimal.{isDigit, valueFrom, valueOf}
 use Rattle.texts.specs.Ends.{untilEnd, NoEndBetween}
 use Rattle.tables.specs.Answers.{takenIn}
 use Rattle.records.specs.Records.{event}
@@ -27,6 +27,23 @@ firstLine s = take (untilEnd s) s
 -- from `at` to i stand the bytes that pass a test, in one line
 abbrev pub Passed : (ℕ → Bool) → List ℕ → ℕ → ℕ → Type 0
 Passed test s at i = (drop i s ≡ behind test (drop at s)) × NoEndBetween s at i
+
+-- the same of a search that may go on: what is behind from `at` on is behind from i on
+abbrev pub Passing : (ℕ → Bool) → List ℕ → ℕ → ℕ → Type 0
+Passing test s at i = (behind test (drop at s) ≡ behind test (drop i s)) × NoEndBetween s at i
+
+-- the digits from `at` on
+abbrev pub digits : List ℕ → ℕ → List ℕ
+digits s at = front isDigit (drop at s)
+
+-- those from i on say, after `value`, what all of them say
+pub record ReadTo (s : List ℕ) (at value i : ℕ) : Type 0 where
+  pub says : valueOf (digits s at) ≡ valueFrom value (digits s i)
+  pub long : length (digits s at) + at ≡ length (digits s i) + i
+  pub from : at ≤ i
+  pub few : i ≤ at + 20
+  pub small : value < 2 ^ 64
+  pub passing : Passing isDigit s at i
 
 -- a number that is read; 12 where there is none
 abbrev pub in64Bits : Outcome ℕ → Outcome ℕ

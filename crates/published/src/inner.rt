@@ -1,9 +1,9 @@
-// The parts of a list where they stand in the file. Nothing is copied, and a byte is looked at once, but the last of a
-// line, which is looked at again where the line may end in a carriage return.
+// The parts of a list where they stand in the file. Nothing is copied, and each reader goes on where the one before it
+// stopped; only the last byte of a line is looked at again, where it may be a carriage return.
 ghost use mathlib.Core.Path.{_≡_};
 ghost use mathlib.Core.Bool.{true, false, cond};
 ghost use mathlib.Core.List.{[]};
-ghost use Prim.Native.Nat.{_-_, _≤_, _<_, _^_};
+ghost use Prim.Native.Nat.{_-_, _≤_, _<_, _^_, min};
 ghost use lib.Dec.{eqb};
 ghost use lib.IntN.{natAbs};
 ghost use lib.ListN.{length, getD, take, drop};
@@ -13,9 +13,9 @@ ghost use Rattle.texts.specs.Ends.{untilEnd};
 ghost use Rattle.tables.specs.Slots.{tableOf};
 ghost use Rattle.records.specs.Records.{event};
 ghost use Rattle.records.specs.Seconds.{recordIn};
-ghost use Rattle.published.specs.LeapSecondsList.{front, isBlank, endsInReturn, offsetRead, recordAt, lineRead};
+ghost use Rattle.published.specs.LeapSecondsList.{isBlank, endsInReturn, offsetRead, recordAt, lineRead};
 ghost use Rattle.published.specs.LeapSecondsList.{reading, ofLines, firstMalformed, recordsIn};
-ghost use Rattle.published.specs.Places.{firstLine, Passed, numberFound, NumberEnds, offsetFound, OffsetEnds};
+ghost use Rattle.published.specs.Places.{firstLine, Passed, digits, ReadTo, numberFound, NumberEnds, offsetFound, OffsetEnds};
 ghost use Rattle.published.specs.Places.{lineFound, LineEnds, readingIn, in64Bits};
 use crate::ListAnswer;
 use counts::units::LARGEST_COUNT;
@@ -31,6 +31,9 @@ use words::inner::digits::digit;
 const RETURN: u8 = 13;
 
 const MOST_DIGITS: usize = 20;
+
+// Any number of so many digits fits 64 bits.
+const SAFE_DIGITS: usize = 19;
 
 // NTP seconds up to 1980-01-06, where TAI counts begin.
 const NTP_SECONDS_TO_1980: u64 = 2_524_953_600;
@@ -68,6 +71,12 @@ fn is_digit(b: u8) -> bool
     (b'0' <= b) & (b <= b'9')
 }
 
+fn least(a: usize, b: usize) -> usize
+    ensures { λ r. ⌜ r ≡ min a b ⌝ }
+{
+    if a < b { a } else { b }
+}
+
 // The place where the blanks from `at` on end.
 fn skip_blanks(s: &[u8], at: usize) -> usize
     requires { ⌜ at ≤ length (now s) ⌝ }
@@ -83,33 +92,53 @@ fn skip_blanks(s: &[u8], at: usize) -> usize
     i
 }
 
-// The number of 64 bits in 1 to 20 digits from `at` on.
-fn read_number(s: &[u8], at: usize) -> NumberRead
-    requires { ⌜ at ≤ length (now s) ⌝ }
-    ensures is { λ r. ⌜ numberFound r ≡ in64Bits (countRead (front isDigit (drop at (now (s .entry))))) ⌝ }
+// The rest of a number whose digits up to `i` say `value`: a 20th digit may make it too large, and a 21st is too many.
+fn read_last_digit(s: &[u8], at: usize, value: u64, i: usize) -> NumberRead
+    requires { ⌜ ReadTo (now s) at value i ⌝ }
+    ensures is { λ r. ⌜ numberFound r ≡ in64Bits (countRead (digits (now (s .entry)) at)) ⌝ }
     ensures ends { λ r. ⌜ NumberEnds (now (s .entry)) at r ⌝ }
 {
+    let mut total = value;
+    let mut k = i;
+    while k < s.len() {
+        let b = s[k];
+        if !is_digit(b) {
+            return number_to(total, at, k);
+        }
+        if k - at == MOST_DIGITS {
+            return NumberRead::Malformed;
+        }
+        let digit = digit(b);
+        if total > LARGEST_COUNT / 10 {
+            return NumberRead::Malformed;
+        }
+        if digit > LARGEST_COUNT - total * 10 {
+            return NumberRead::Malformed;
+        }
+        total = total * 10 + digit;
+        k += 1;
+    }
+    number_to(total, at, k)
+}
+
+// The number of 64 bits in 1 to 20 digits from `at` on. Up to 19 digits fit whatever they are, so they are not tested.
+fn read_number(s: &[u8], at: usize) -> NumberRead
+    requires { ⌜ at ≤ length (now s) ⌝ }
+    ensures is { λ r. ⌜ numberFound r ≡ in64Bits (countRead (digits (now (s .entry)) at)) ⌝ }
+    ensures ends { λ r. ⌜ NumberEnds (now (s .entry)) at r ⌝ }
+{
+    let end = at + least(s.len() - at, SAFE_DIGITS);
     let mut value: u64 = 0;
     let mut i = at;
-    while i < s.len() {
+    while i < end {
         let b = s[i];
         if !is_digit(b) {
             return number_to(value, at, i);
         }
-        if i - at == MOST_DIGITS {
-            return NumberRead::Malformed;
-        }
-        let digit = digit(b);
-        if value > LARGEST_COUNT / 10 {
-            return NumberRead::Malformed;
-        }
-        if digit > LARGEST_COUNT - value * 10 {
-            return NumberRead::Malformed;
-        }
-        value = value * 10 + digit;
+        value = value * 10 + digit(b);
         i += 1;
     }
-    number_to(value, at, i)
+    read_last_digit(s, at, value, i)
 }
 
 // The number of the digits from `at` to `i`; there has to be one.

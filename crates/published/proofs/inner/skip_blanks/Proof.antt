@@ -7,7 +7,8 @@ use borrow.Author.Tests.{not-true, not-false}
 use denote.Ref.{now}
 use lib.ListN.{length}
 use Rattle.published.specs.LeapSecondsList.{isBlank}
-use Rattle.published.proofs.Parts.{Passing, passes-on, stops-here, stops-at-end}
+use Rattle.published.specs.Places.{Passing}
+use Rattle.published.proofs.Parts.{passes-on, stops-here, stops-at-end}
 use Rattle.published.proofs.inner.skip_blanks as call
 
 abbrev Inv-loop : call.Tie.InvT-loop

@@ -1,0 +1,75 @@
+-- Worked examples of the reader: a list of files, and what each is read as.
+use mathlib.Core.Path.{_≡_, refl}
+use mathlib.Core.List.{List, [], _∷_, map}
+use Prim.Native.Nat.{ℕ}
+use lib.IntN.{pos}
+use Rattle.tables.specs.Entries.{entry}
+use Rattle.tables.specs.Slots.{tableOf}
+use Rattle.records.specs.Records.{hasFirst, upToFirst, behindFirst, orderRefusal, someAbove}
+use Rattle.published.specs.LeapSecondsList.{front, behind, endsInReturn, firstMalformed, recordsIn, Reading, reading, listRead}
+
+abbrev pub files : List (List ℕ)
+files =
+    -- an entry and one after it; the last line may lack its end: '2524521600 19\n2571782400 20'
+    (50 ∷ 53 ∷ 50 ∷ 52 ∷ 53 ∷ 50 ∷ 49 ∷ 54 ∷ 48 ∷ 48 ∷ 32 ∷ 49 ∷ 57 ∷ 10 ∷ 50 ∷ 53 ∷ 55 ∷ 49 ∷ 55 ∷ 56 ∷ 50 ∷ 52 ∷ 48 ∷ 48 ∷ 32 ∷ 50 ∷ 48 ∷ []) ∷
+    -- a comment, blanks, zeros in front, and a comment without a blank: '#c\n \t\n0009\t19#c\n'
+    (35 ∷ 99 ∷ 10 ∷ 32 ∷ 9 ∷ 10 ∷ 48 ∷ 48 ∷ 48 ∷ 57 ∷ 9 ∷ 49 ∷ 57 ∷ 35 ∷ 99 ∷ 10 ∷ []) ∷
+    -- a dropped line: '8 18\n9 19'
+    (56 ∷ 32 ∷ 49 ∷ 56 ∷ 10 ∷ 57 ∷ 32 ∷ 49 ∷ 57 ∷ []) ∷
+    -- no byte: ''
+    [] ∷
+    -- data, and no offset 19: '9 18'
+    (57 ∷ 32 ∷ 49 ∷ 56 ∷ []) ∷
+    -- a letter behind the offset, in line 2: '#\n9 19s'
+    (35 ∷ 10 ∷ 57 ∷ 32 ∷ 49 ∷ 57 ∷ 115 ∷ []) ∷
+    -- a blank in front: ' 9 19'
+    (32 ∷ 57 ∷ 32 ∷ 49 ∷ 57 ∷ []) ∷
+    -- a comment that ends in CR: '#\r\n9 19'
+    (35 ∷ 13 ∷ 10 ∷ 57 ∷ 32 ∷ 49 ∷ 57 ∷ []) ∷
+    -- a number of 65 bits: '18446744073709551616 19'
+    (49 ∷ 56 ∷ 52 ∷ 52 ∷ 54 ∷ 55 ∷ 52 ∷ 52 ∷ 48 ∷ 55 ∷ 51 ∷ 55 ∷ 48 ∷ 57 ∷ 53 ∷ 53 ∷ 49 ∷ 54 ∷ 49 ∷ 54 ∷ 32 ∷ 49 ∷ 57 ∷ []) ∷
+    -- an offset of 32 bits: '9 2147483648'
+    (57 ∷ 32 ∷ 50 ∷ 49 ∷ 52 ∷ 55 ∷ 52 ∷ 56 ∷ 51 ∷ 54 ∷ 52 ∷ 56 ∷ []) ∷
+    -- a dropped line whose NTP second does not rise: '9 18\n9 19'
+    (57 ∷ 32 ∷ 49 ∷ 56 ∷ 10 ∷ 57 ∷ 32 ∷ 49 ∷ 57 ∷ []) ∷
+    -- an offset that is left out: '8 17\n9 19'
+    (56 ∷ 32 ∷ 49 ∷ 55 ∷ 10 ∷ 57 ∷ 32 ∷ 49 ∷ 57 ∷ []) ∷
+    -- no offset after the largest: '8 2147483647\n9 19'
+    (56 ∷ 32 ∷ 50 ∷ 49 ∷ 52 ∷ 55 ∷ 52 ∷ 56 ∷ 51 ∷ 54 ∷ 52 ∷ 55 ∷ 10 ∷ 57 ∷ 32 ∷ 49 ∷ 57 ∷ []) ∷
+    -- a threshold of 0, and the first above it: '9 19\n2524953580 20'
+    (57 ∷ 32 ∷ 49 ∷ 57 ∷ 10 ∷ 50 ∷ 53 ∷ 50 ∷ 52 ∷ 57 ∷ 53 ∷ 51 ∷ 53 ∷ 56 ∷ 48 ∷ 32 ∷ 50 ∷ 48 ∷ []) ∷
+    -- '9 19\n2524953581 20'
+    (57 ∷ 32 ∷ 49 ∷ 57 ∷ 10 ∷ 50 ∷ 53 ∷ 50 ∷ 52 ∷ 57 ∷ 53 ∷ 51 ∷ 53 ∷ 56 ∷ 49 ∷ 32 ∷ 50 ∷ 48 ∷ []) ∷
+    -- the last second that is a count, and the next: '9 19\n20971697653 20'
+    (57 ∷ 32 ∷ 49 ∷ 57 ∷ 10 ∷ 50 ∷ 48 ∷ 57 ∷ 55 ∷ 49 ∷ 54 ∷ 57 ∷ 55 ∷ 54 ∷ 53 ∷ 51 ∷ 32 ∷ 50 ∷ 48 ∷ []) ∷
+    -- '9 19\n20971697654 20'
+    (57 ∷ 32 ∷ 49 ∷ 57 ∷ 10 ∷ 50 ∷ 48 ∷ 57 ∷ 55 ∷ 49 ∷ 54 ∷ 57 ∷ 55 ∷ 54 ∷ 53 ∷ 52 ∷ 32 ∷ 50 ∷ 48 ∷ []) ∷
+    -- 1 before 3: the second record does not rise: '9 18\n9 19\n20971697654 20'
+    (57 ∷ 32 ∷ 49 ∷ 56 ∷ 10 ∷ 57 ∷ 32 ∷ 49 ∷ 57 ∷ 10 ∷ 50 ∷ 48 ∷ 57 ∷ 55 ∷ 49 ∷ 54 ∷ 57 ∷ 55 ∷ 54 ∷ 53 ∷ 52 ∷ 32 ∷ 50 ∷ 48 ∷ []) ∷
+    []
+
+abbrev pub readings : List Reading
+readings =
+    reading 0 0 (tableOf (entry 0 (pos 19) ∷ entry 46828820000000000 (pos 20) ∷ [])) ∷
+    reading 0 0 (tableOf (entry 0 (pos 19) ∷ [])) ∷
+    reading 0 0 (tableOf (entry 0 (pos 19) ∷ [])) ∷
+    reading 6 0 (tableOf []) ∷
+    reading 12 0 (tableOf []) ∷
+    reading 12 2 (tableOf []) ∷
+    reading 12 1 (tableOf []) ∷
+    reading 12 1 (tableOf []) ∷
+    reading 12 1 (tableOf []) ∷
+    reading 12 1 (tableOf []) ∷
+    reading 3 0 (tableOf []) ∷
+    reading 4 0 (tableOf []) ∷
+    reading 7 0 (tableOf []) ∷
+    reading 3 0 (tableOf []) ∷
+    reading 0 0 (tableOf (entry 0 (pos 19) ∷ entry 1000000000 (pos 20) ∷ [])) ∷
+    reading 0 0 (tableOf (entry 0 (pos 19) ∷ entry 18446744073000000000 (pos 20) ∷ [])) ∷
+    reading 1 0 (tableOf []) ∷
+    reading 1 0 (tableOf []) ∷
+    []
+
+pub every-example : map listRead files ≡ readings
+unfolding front behind endsInReturn firstMalformed recordsIn hasFirst upToFirst behindFirst orderRefusal someAbove
+every-example = refl
