@@ -8,4 +8,5 @@ pub mod Shifted
 pub mod ReadTables
 pub mod ReadLists
 pub mod WrittenTables
+pub mod ReadFiles
 pub mod Tables

@@ -26,5 +26,6 @@ pub mod CivilTimes
 pub mod ByBuiltin
 pub mod ByTable
 pub mod LeapTables
+pub mod LeapFiles
 pub mod LeapEvents
 pub mod LeapLists

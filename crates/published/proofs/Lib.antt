@@ -5,3 +5,4 @@ pub mod Offsets
 pub mod LineKinds
 pub mod WholeFile
 pub mod Examples
+pub mod Calls
