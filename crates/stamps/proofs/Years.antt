@@ -1,7 +1,8 @@
--- The form of a UTC count: its year is from 1970 to 9999, so its fields fit, and they are read back from it.
+-- The form of a day from 1970 to 9999: its year has four digits, so its fields fit. A UTC count is on such a day, and
+-- its fields are read back from the form.
 use mathlib.Core.Path.{_≡_, refl, ap, subst}
 use mathlib.Core.Bool.{Bool, true, false}
-use Prim.Native.Nat.{ℕ, _+_, _/_, _<_, _^_}
+use Prim.Native.Nat.{ℕ, _+_, _/_, _%_, _<_, _^_}
 use native.Mathlib.Omega.{arith}
 use borrow.Author.Needs.{needs}
 use lib.Dec.{T, leb, leb→le, ltb→lt}
@@ -13,7 +14,7 @@ use Rattle.calendar.proofs.Tested.{every, at}
 use Rattle.calendar.proofs.RealDates.{real}
 use Rattle.calendar.proofs.CalendarTheorems.{real-date, date-of-day}
 use Rattle.calendar.proofs.DateOrder.{Before, by-year, by-month, by-day, later-dates}
-use Rattle.civil.specs.Fields.{dateIn, fieldsOf}
+use Rattle.civil.specs.Fields.{fieldsOn, fieldsOf}
 use Rattle.refusals.specs.Outcome.{answered}
 use Rattle.stamps.specs.Form.{Fits, written, stampRead}
 use Rattle.stamps.proofs.WayBack.{written-reads}
@@ -43,12 +44,10 @@ unfolding daysIn
 tested-short true = tt
 tested-short false = tt
 
-module _ (n : ℕ) (count : n < 2 ^ 64) where
-  abbrev day : ℕ
-  day = n / 1000000000 / 86400 + 730
-
+-- a time of day on a day after 1970-01-01 and before 9999-12-31
+module _ (day s n : ℕ) (since : 0 < day) (few : day < 2932896) (part : n < 10 ^ 9) where
   abbrev date : Date
-  date = dateIn (fieldsOf n)
+  date = dateOf (pos day)
 
   year-is : date .year ≡ pos (natAbs (date .year))
   unfolding dateOf
@@ -63,8 +62,8 @@ module _ (n : ℕ) (count : n < 2 ^ 64) where
       (λ e. omega (arith, ap natAbs e))
       (subst (λ (d : Date). Before date d) last-day (later-dates day 2932896 (omega arith)))
 
-  pub fits-form : Fits (fieldsOf n)
-  fits-form =
+  pub fits-on-day : Fits (fieldsOn date s n)
+  fits-on-day =
       let r = real-date (pos day) in
       let l = leap (date .year) in
       let tested = at (short l) 13 (tested-short l) (date .month) (omega (arith, r .month-to)) in
@@ -72,6 +71,12 @@ module _ (n : ℕ) (count : n < 2 ^ 64) where
       let is = year-is in
       let few = four-digits in
       search needs
+
+module _ (n : ℕ) (count : n < 2 ^ 64) where
+  pub fits-form : Fits (fieldsOf n)
+  fits-form =
+      fits-on-day (n / 1000000000 / 86400 + 730) (n / 1000000000) (n % 1000000000) (omega arith) (omega arith)
+      (omega arith)
 
   pub form-reads-back : stampRead (written (fieldsOf n)) ≡ answered (fieldsOf n)
   form-reads-back = written-reads (fieldsOf n) fits-form

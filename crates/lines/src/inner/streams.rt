@@ -1,8 +1,9 @@
-// Standard input read in blocks, and standard output written. A program's loop is: `read_on`, answer, `write_out`.
+// Standard input read in blocks or whole, and standard output written. A program's loop over blocks is: `read_on`,
+// answer, `write_out`.
 // Left to reading: which bytes the C library's read and write move. No contract says that.
 ghost use Prim.Native.Nat.{_<_};
 ghost use lib.ListN.{length};
-ghost use Rattle.lines.specs.Places.{Within, Stands};
+ghost use Rattle.lines.specs.Places.{Within, Stands, Reads};
 use libc::EAGAIN;
 use libc::EINTR;
 use libc::STDERR_FILENO;
@@ -26,6 +27,12 @@ pub enum Progress {
     Ended,
     CannotRead,
     CannotWrite,
+}
+
+// How many bytes were read.
+pub enum Input {
+    Bytes(usize),
+    CannotRead,
 }
 
 // A millisecond, between two tries of a call that found nothing to do.
@@ -98,6 +105,30 @@ pub fn read_on(place: Place, block: &mut [u8]) -> Progress
         end: io::count(got, block),
         over: false,
     })
+}
+
+// Reads standard input until it ends or the block is full. The u64::MAX budget exists only so that the loop provably
+// ends.
+pub fn read_whole(block: &mut [u8]) -> Input
+    ensures { λ r. ⌜ Reads (length (now (block .entry))) r ⌝ }
+{
+    let mut at: usize = 0;
+    let mut left = u64::MAX;
+    while left > 0 {
+        if at == block.len() {
+            return Input::Bytes(at);
+        }
+        let got = libc::read(STDIN_FILENO, &mut block[at..]);
+        if got == 0 {
+            return Input::Bytes(at);
+        }
+        if failed(got) {
+            return Input::CannotRead;
+        }
+        at += io::count(got, &block[at..]);
+        left -= 1;
+    }
+    Input::CannotRead
 }
 
 // Writes bytes to standard output; whether all could be written. The u64::MAX budget exists only so that the loop

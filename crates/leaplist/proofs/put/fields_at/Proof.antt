@@ -1,0 +1,26 @@
+-- `fields_at`: the engine gives the date of the second's day; quotients and remainders give its time.
+use mathlib.Core.Path.{ap, _∙_}
+use native.Mathlib.Omega.{arith}
+use borrow.Author.Needs.{needs}
+use lib.IntN.{ℤ}
+use mir.Syntax.{w32}
+use mir.Val.{SFits}
+use mir.Facts.{toZ-ofZ}
+use Rattle.calendar.specs.Calendar.{Date, on}
+use Rattle.civil.specs.Fields.{fieldsOn}
+use Rattle.leaplist.proofs.put.fields_at as call
+
+returns : call.Tie.Need-returns
+returns c =
+    let d = c .before .date-of-utc-day in
+    let fits : SFits w32 (d .result .year) = record { sfits = omega arith } in
+    let second = c .before .before .args .second in
+    ap (λ (x : Date). fieldsOn x second 0)
+    (ap (λ (y : ℤ). on y (d .result .month) (d .result .day)) (toZ-ofZ fits) ∙ d .ensures)
+
+-- cast-date-of-utc-day, date-of-utc-day-requires, cast-t6, cast-t9, cast-t11, returns
+pub fields-at-spec : {M : Type 1} → call.Statement.statement M
+fields-at-spec =
+    call.Tie.close
+    (call.Tie.spec (λ c. search needs) (λ c κs. search needs) (λ c. search needs) (λ c. search needs)
+    (λ c. search needs) returns)
