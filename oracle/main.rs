@@ -15,9 +15,12 @@ mod header;
 mod images;
 mod inputs;
 mod instants;
+mod list_files;
+mod list_reader;
 mod lists;
 mod number;
 mod original;
+mod published;
 mod questions;
 mod record;
 mod shifted;
@@ -30,7 +33,7 @@ const USAGE: &str = "\
 usage: oracle/run [--native] [--seed N] [--count N] [--record FILE]
   --native       as the first word: for the processor of this machine, with 20000 random inputs
   --seed N       where the random inputs start (20260101); the same seed gives the same run
-  --count N      random inputs for each call, after all its edges (100000)
+  --count N      random inputs for each call, after all its edges (100000), and ten times as many lists to read
   --record FILE  first write the recorded list of the crate's answers to FILE";
 
 struct Options {
@@ -53,7 +56,7 @@ fn main() -> ExitCode {
             return failed(&format!("cannot write {file}: {error}"));
         }
     }
-    let disagreements = header::disagreements(&calls);
+    let disagreements = header::disagreements(&calls, &published::prototype());
     if !disagreements.is_empty() {
         return failed(&format!("include/plaitgate.h and the oracle disagree\n{}", disagreements.join("\n")));
     }
@@ -123,6 +126,10 @@ fn run(calls: &[call::Call], seed: u64, count: u64) -> ExitCode {
         if !all_came {
             return failed("a later count was not met in each of the three ways");
         }
+    }
+    match published::compare(seed, count) {
+        Ok(sentences) => sentences.iter().for_each(|sentence| println!("oracle: {sentence}")),
+        Err(reason) => return failed(&reason),
     }
     println!("oracle: {} examples, answered alike by both", examples::COUNT);
     println!("oracle: {} slips, each wrong where the port is right", slips::COUNT);
