@@ -1,6 +1,7 @@
 //! The port and the crate gnss-time, in one process and on the same inputs. `bench/run` builds it and runs it.
 
 mod counts;
+mod list;
 mod measure;
 mod port;
 
@@ -33,6 +34,7 @@ fn main() {
     {
         shifted(&bench, &order);
     }
+    list::lists(&bench);
 }
 
 struct Order {

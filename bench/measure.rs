@@ -8,6 +8,8 @@ use std::time::{Duration, Instant};
 const ROUNDS: usize = 25;
 /// The inputs are timed in parts, each so short that in some round nothing else comes between.
 const PART: usize = 10_000;
+/// How often a file is passed over in one part.
+const PASSES: usize = 200;
 
 /// An answer that a host goes on with.
 pub trait Used {
@@ -92,6 +94,29 @@ impl Bench {
     /// The heading of what `beside` writes.
     pub fn begin_beside(&self) {
         println!("{:<25} {:<10} {:>8} {:>8} {:>10}", "The port beside itself", "inputs", "GPS", "other", "other/GPS");
+    }
+
+    /// Measures the port on the bytes of a file, beside another pass over the same bytes.
+    pub fn passes<Refusal>(
+        &self,
+        name: &str,
+        file: &[u8],
+        other: impl Fn(&[u8]) -> Result<u64, Refusal>,
+        port: impl Fn(&[u8]) -> Result<u64, Refusal>,
+    ) {
+        let inputs = [file; PASSES];
+        let (mut of_other, mut of_port) = (Best::new(&inputs), Best::new(&inputs));
+        for _ in 0..ROUNDS {
+            of_other.round(&inputs, &other);
+            of_port.round(&inputs, &port);
+        }
+        let (other, port) = (of_other.nanos_for_each(&inputs), of_port.nanos_for_each(&inputs));
+        println!("{name:<25} {:<10} {other:>8.0} {port:>8.0} {:>11.2}", file.len(), port / other);
+    }
+
+    /// The heading of what `passes` writes.
+    pub fn begin_passes(&self) {
+        println!("{:<25} {:<10} {:>8} {:>8} {:>11}", "A file", "bytes", "memchr", "port", "port/memchr");
     }
 
     /// Measures what only the port does.

@@ -31,6 +31,13 @@ extern "C" {
     fn plaitgate_table_utc_to_gps(utc: u64, image: *const u8, image_bytes: usize, gps: *mut u64) -> u32;
     fn plaitgate_table_from_builtin(image: *mut u8, image_bytes: usize) -> u32;
     fn plaitgate_table_len(image: *const u8, image_bytes: usize, len: *mut u64) -> u32;
+    fn plaitgate_read_leap_list(
+        list: *const u8,
+        list_bytes: usize,
+        image: *mut u8,
+        image_bytes: usize,
+        line: *mut u64,
+    ) -> u32;
 }
 
 /// Calls on a count, by the built-in table and by an image: the names of the exported functions.
@@ -133,7 +140,7 @@ pub fn builtin_utc_to_gps(utc: u64) -> Answer<Time<Gps>> {
 }
 
 /// A table of the host's, which the port reads and checks at each call.
-pub struct Image([u8; 776]);
+pub struct Image(pub [u8; 776]);
 
 impl Image {
     pub fn of_builtin() -> Image {
@@ -142,6 +149,17 @@ impl Image {
         let refusal = unsafe { plaitgate_table_from_builtin(image.0.as_mut_ptr(), image.0.len()) };
         assert_eq!(refusal, 0);
         image
+    }
+
+    /// The table of a leap-seconds.list.
+    #[inline(always)]
+    pub fn of_list(bytes: &[u8]) -> Answer<Image> {
+        let (mut image, mut line) = (Image([0; 776]), 0);
+        // SAFETY: the bytes and the image are so long and do not overlap, and the line has a place
+        let refusal = unsafe {
+            plaitgate_read_leap_list(bytes.as_ptr(), bytes.len(), image.0.as_mut_ptr(), image.0.len(), &mut line)
+        };
+        answer(refusal, image)
     }
 
     #[inline(always)]
