@@ -1,4 +1,4 @@
-//! A published leap-seconds.list read into a table, beside a search for its line ends and nothing else.
+//! A published leap-seconds.list read into a table, and compared with a search for its line ends and nothing else.
 
 use crate::measure::Bench;
 use crate::port::Image;
@@ -12,7 +12,7 @@ extern "C" {
     fn memchr(bytes: *const c_void, byte: c_int, count: usize) -> *const c_void;
 }
 
-/// The list as it is, and with comments behind it up to 30,000 and 60,000 bytes: the time grows with the bytes.
+/// The list as it is, and with comments after it up to 30,000 and 60,000 bytes: the time grows with the bytes.
 pub fn lists(bench: &Bench) {
     bench.begin_passes();
     for list in [PUBLISHED.to_vec(), padded(30_000), padded(60_000)] {
@@ -23,7 +23,7 @@ pub fn lists(bench: &Bench) {
     }
 }
 
-/// The published list with its own comments behind it, again and again, up to so many bytes.
+/// The published list with its own comments after it, again and again, up to a given number of bytes.
 fn padded(most: usize) -> Vec<u8> {
     let comments = PUBLISHED.split_inclusive(|byte| *byte == LF).filter(|line| line[0] == b'#');
     let mut list = PUBLISHED.to_vec();
@@ -40,7 +40,7 @@ fn padded(most: usize) -> Vec<u8> {
 fn line_ends(bytes: &[u8]) -> Result<u64, u32> {
     let (mut rest, mut ends) = (bytes, 0);
     loop {
-        // SAFETY: there are so many bytes
+        // SAFETY: the slice has that many bytes
         let found = unsafe { memchr(rest.as_ptr().cast(), c_int::from(LF), rest.len()) };
         if found.is_null() {
             return Ok(ends);

@@ -96,7 +96,7 @@ impl Bench {
         println!("{:<25} {:<10} {:>8} {:>8} {:>10}", "The port beside itself", "inputs", "GPS", "other", "other/GPS");
     }
 
-    /// Measures the port on the bytes of a file, beside another pass over the same bytes.
+    /// Measures the port on the bytes of a file, and another pass over the same bytes.
     pub fn passes<Refusal>(
         &self,
         name: &str,

@@ -541,7 +541,7 @@ uint32_t plaitgate_table_from_entries(const uint8_t *entries, size_t entries_byt
 
 /* Reads a leap-seconds.list as the IERS publishes it, the bytes of the whole file, and writes the image of its table.
    A line that begins with # is a comment; a line of blanks (spaces and tabs) or of nothing is passed over; every other
-   line is the NTP second at which an offset begins, blanks, and the offset, and may have blanks and a comment behind.
+   line is the NTP second at which an offset begins, blanks, and the offset, and may end with blanks and a comment.
    The first line with the offset 19 becomes the entry (0, 19); lines before it are checked and dropped; each line after
    it becomes an entry, whose threshold is its NTP second less 2524953600 s, plus the offset. `line` is the number of
    the first malformed line, from 1 on with comments and blank lines counted; it is 0 where no line is malformed, and

@@ -31,11 +31,11 @@ const DEBIAN: &str = "/usr/share/zoneinfo/leap-seconds.list";
 /// Random files for each random input of another call.
 const FILES_FOR_EACH: u64 = 10;
 const BAD_TABLE: u32 = 8;
-/// What an image is filled with, and the bytes around it: so many that it begins at an odd address.
+/// What an image is filled with, and the bytes around it: as many as make it begin at an odd address.
 const UNWRITTEN: u8 = 0xA5;
 const AROUND: usize = 7;
 const SPILLED: &str = "bytes next to the results are changed";
-/// What lies right before and behind the bytes of a file: a reader that goes past its ends reads another number.
+/// What is right before and after the bytes of a file: a reader that goes past its ends reads another number.
 const BEFORE: &[u8] = b"7";
 const BEHIND: &[u8] = b"7 20\n";
 const DIFFERENCES_SHOWN: u64 = 5;
@@ -149,8 +149,8 @@ fn port(file: &[u8], image_len: usize) -> Option<Reading> {
         )
     };
     let (before, rest) = room.split_at(AROUND);
-    let (image, behind) = rest.split_at(image_len);
-    let spilled = [before, behind].concat() != [UNWRITTEN; 2 * AROUND] || line.spilled::<u64>();
+    let (image, after) = rest.split_at(image_len);
+    let spilled = [before, after].concat() != [UNWRITTEN; 2 * AROUND] || line.spilled::<u64>();
     (!spilled).then(|| Reading { number, line: line.value::<u64>() as u64, image: image.to_vec() })
 }
 
@@ -164,7 +164,7 @@ fn said(reading: &Reading) -> String {
     let Reading { number, line, image } = reading;
     let words = words(image).into_iter().enumerate().filter(|(_, word)| *word != 0);
     let words: BTreeMap<usize, i128> = words.map(|(place, word)| (8 * place, word)).collect();
-    format!("{number}, line {line}, and an image of zeros but for {words:?}")
+    format!("{number}, line {line}, and an image of zeros except {words:?}")
 }
 
 /// The lists as they were published, the one here and Debian's: each is the built-in table for both readers.

@@ -122,9 +122,9 @@ impl LeapTable {
     /// The table of a leap-seconds.list as the IERS publishes it, from the bytes of the whole file.
     ///
     /// A line that begins with `#` is a comment; a line of spaces and tabs, or of nothing, is passed over; every other
-    /// line is the NTP second at which an offset begins, and the offset, and may have a comment behind. The first line
+    /// line is the NTP second at which an offset begins, and the offset, and may end with a comment. The first line
     /// with the offset 19 becomes the entry (0, 19), and each line after it an entry; lines before it are checked and
-    /// dropped. The file's expiry date and hash code stand in comments, and are not checked.
+    /// dropped. The file's expiry date and hash code are in comments, and are not checked.
     ///
     /// ```
     /// use plaitgate::{LeapEntry, LeapTable};

@@ -10,7 +10,7 @@ fn refused(list: impl AsRef<[u8]>) -> (Error, Option<u64>) {
     (refused.error(), refused.line())
 }
 
-/// The lines of so many records, a million seconds apart, from an offset on; that of 19 is before the GPS epoch.
+/// The lines of a number of records, a million seconds apart, from an offset on; that of 19 is before the GPS epoch.
 fn rising(records: u64, first: u64) -> String {
     (first..first + records)
         .map(|offset| format!("{} {offset}\n", 2_524_521_600 + 1_000_000 * offset - 19_000_000))
@@ -51,7 +51,7 @@ fn a_malformed_line_is_named() {
     assert_eq!(refused(text.replace("3692217600", "3692217600.")), (Error::BadList, Some(last)));
     assert_eq!(refused(text.replace("3692217600", " 3692217600")), (Error::BadList, Some(last)));
     assert_eq!(refused(text.replace("# 1 Jan 2017", "1 Jan 2017")), (Error::BadList, Some(last)));
-    // the first of two, whatever else there is to refuse
+    // the first of two comes before any other refusal
     assert_eq!(refused("# 1\n\n0 20\nx\n0 20\ny\n"), (Error::BadList, Some(4)));
     let malformed =
         ["0", "0 ", "0 19 20", "18446744073709551616 19", "0 2147483648", "000000000000000000000 19", "0 19\r"];
@@ -75,7 +75,7 @@ fn each_refusal() {
     // 5
     assert_eq!(LeapTable::from_leap_seconds_list(rising(65, 18).as_bytes()).map(|table| table.len()), Ok(64));
     assert_eq!(refused(rising(66, 18)), none(Error::BufferFull));
-    // 3: by NTP seconds up to the first 19, by thresholds behind it
+    // 3: by NTP seconds up to the first 19, by thresholds after it
     assert_eq!(refused("5 18\n5 19\n"), none(Error::NotStrictlyAscending));
     assert!(LeapTable::from_leap_seconds_list(b"9999999999 19\n2524953581 20\n").is_ok());
     assert_eq!(refused("0 19\n2524953580 20\n"), none(Error::NotStrictlyAscending));

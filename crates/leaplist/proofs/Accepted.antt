@@ -14,7 +14,7 @@ use Rattle.texts.specs.Lines.{linesOf}
 use Rattle.tables.specs.Answers.{takenIn}
 use Rattle.tables.specs.Entries.{Entry}
 use Rattle.tables.specs.Slots.{paired, entriesOf, tableOf}
-use Rattle.records.specs.Records.{Record, isFirst, hasFirst, behindFirst, kept, orElse, fileOrder, someAbove}
+use Rattle.records.specs.Records.{Record, isFirst, hasFirst, afterFirst, kept, orElse, fileOrder, someAbove}
 use Rattle.records.specs.Records.{recordsRefusal, entryOf, tableFrom}
 use Rattle.published.specs.LeapSecondsList.{Reading, reading, firstMalformed, recordsIn, ofRecords, ofLines, listRead}
 use Rattle.published.specs.Places.{readingIn}
@@ -32,19 +32,19 @@ pub record Accepted (bs : List ℕ) (r : Reading) : Type 0 where
 -- ---- the records
 -- those that are kept are records of the file
 kept-held : (rs : List Record) → hasFirst rs ≡ true → length (kept rs) ≤ length rs
-unfolding hasFirst behindFirst
+unfolding hasFirst afterFirst
 kept-held [] e = absurd (let z : _≡_ {A = ℕ} 0 1 = cc in omega arith)
 kept-held (r ∷ rs) e = by-first (isFirst r) e (kept-held rs)
   where
     by-first : (t : Bool) → (t || hasFirst rs) ≡ true → (hasFirst rs ≡ true → length (kept rs) ≤ length rs)
-        → suc (length (cond t rs (behindFirst rs))) ≤ suc (length rs)
+        → suc (length (cond t rs (afterFirst rs))) ≤ suc (length rs)
     by-first true e rest = omega arith
     by-first false e rest = omega (arith, rest e)
 
 -- records that make a table have one with offset 19, and at most 64 are kept
 make-table : (rs : List Record) → recordsRefusal 12 rs ≡ 0 → (hasFirst rs ≡ true) × (length (kept rs) ≤ 64)
 make-table rs z =
-    by-tests (eqb (length rs) 0) (hasFirst rs) refl (someAbove (behindFirst rs)) (ltb 64 (length (kept rs))) refl z
+    by-tests (eqb (length rs) 0) (hasFirst rs) refl (someAbove (afterFirst rs)) (ltb 64 (length (kept rs))) refl z
   where
     by-tests : (empty has : Bool) → hasFirst rs ≡ has → (above long : Bool) → ltb 64 (length (kept rs)) ≡ long
         → cond empty 6 (cond has (orElse (cond above 1 0) (orElse (cond long 5 0) (fileOrder rs))) 12) ≡ 0

@@ -1,4 +1,4 @@
--- A number in front of a text: what the digits from a place on say, at a turn of its reader.
+-- A number at the start of a text: what the digits from a place on say, at a turn of its reader.
 use mathlib.Core.Path.{_≡_, refl, sym, ap, _∙_}
 use mathlib.Core.Bool.{Bool, true, false, cond, _&&_, and-false}
 use mathlib.Core.List.{List, [], _∷_}
@@ -13,19 +13,19 @@ use Rattle.refusals.specs.Outcome.{answered, refused}
 use Rattle.words.specs.Decimal.{isDigit, allDigits, valueFrom, valueOf, countRead}
 use Rattle.words.proofs.Reading.{grows, is-count}
 use Rattle.words.proofs.WayBack.{first-half}
-use Rattle.published.specs.LeapSecondsList.{front}
+use Rattle.published.specs.LeapSecondsList.{takeWhile}
 use Rattle.published.specs.Places.{Passed, digits, ReadTo, in64Bits, numberFound, NumberEnds}
 use Rattle.published.specs.declared.inner.NumberRead.{NumberRead}
 use Rattle.published.specs.declared.inner.NumberRead.the-variants as number
-use Rattle.published.proofs.Parts.{front-on, passes-on}
+use Rattle.published.proofs.Parts.{take-on, passes-on}
 
-digits-in-front : (s : List ℕ) → allDigits (front isDigit s) ≡ true
-unfolding front
-digits-in-front [] = refl
-digits-in-front (b ∷ s) = by-byte (isDigit b) refl (digits-in-front s)
+leading-digits : (s : List ℕ) → allDigits (takeWhile isDigit s) ≡ true
+unfolding takeWhile
+leading-digits [] = refl
+leading-digits (b ∷ s) = by-byte (isDigit b) refl (leading-digits s)
   where
-    by-byte : (t : Bool) → isDigit b ≡ t → allDigits (front isDigit s) ≡ true
-        → allDigits (cond t (b ∷ front isDigit s) []) ≡ true
+    by-byte : (t : Bool) → isDigit b ≡ t → allDigits (takeWhile isDigit s) ≡ true
+        → allDigits (cond t (b ∷ takeWhile isDigit s) []) ≡ true
     by-byte true e rest = rw (e, rest)
     by-byte false e rest = refl
 
@@ -61,7 +61,7 @@ module _ {s : List ℕ} {at value i : ℕ} (r : ReadTo s at value i) where
           let some : 0 < length (digits s at) = omega (arith, all, h) in
           rw (
             ne-eqb i at (λ e. omega (arith, e, h)),
-            is-count (digits s at) some (omega (arith, all, r .few)) (digits-in-front (drop at s)) (omega (arith, is, r .small)),
+            is-count (digits s at) some (omega (arith, all, r .few)) (leading-digits (drop at s)) (omega (arith, is, r .small)),
             is,
           )
 
@@ -77,10 +77,10 @@ module _ {s : List ℕ} {at value i : ℕ} (r : ReadTo s at value i) where
     next = value * 10 + (getD s i 0 - 48)
 
     on : valueOf (digits s at) ≡ valueFrom next (digits s (i + 1))
-    on = r .says ∙ rw (front-on isDigit s i inside e)
+    on = r .says ∙ rw (take-on isDigit s i inside e)
 
     longer : length (digits s i) ≡ suc (length (digits s (i + 1)))
-    longer = ap length (front-on isDigit s i inside e)
+    longer = ap length (take-on isDigit s i inside e)
 
     pub too-long : i ≡ at + 20 → refused 12 ≡ in64Bits (countRead (digits s at))
     too-long h = rw (lt-leb (length (digits s at)) 20 (omega (arith, r .long, longer)), and-false)

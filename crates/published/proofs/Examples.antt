@@ -5,14 +5,14 @@ use Prim.Native.Nat.{ℕ}
 use lib.IntN.{pos}
 use Rattle.tables.specs.Entries.{entry}
 use Rattle.tables.specs.Slots.{tableOf}
-use Rattle.records.specs.Records.{hasFirst, upToFirst, behindFirst, orderRefusal, someAbove}
-use Rattle.published.specs.LeapSecondsList.{front, behind, endsInReturn, firstMalformed, recordsIn, Reading, reading, listRead}
+use Rattle.records.specs.Records.{hasFirst, upToFirst, afterFirst, orderRefusal, someAbove}
+use Rattle.published.specs.LeapSecondsList.{takeWhile, dropWhile, endsInReturn, firstMalformed, recordsIn, Reading, reading, listRead}
 
 abbrev pub files : List (List ℕ)
 files =
     -- an entry and one after it; the last line may lack its end: '2524521600 19\n2571782400 20'
     (50 ∷ 53 ∷ 50 ∷ 52 ∷ 53 ∷ 50 ∷ 49 ∷ 54 ∷ 48 ∷ 48 ∷ 32 ∷ 49 ∷ 57 ∷ 10 ∷ 50 ∷ 53 ∷ 55 ∷ 49 ∷ 55 ∷ 56 ∷ 50 ∷ 52 ∷ 48 ∷ 48 ∷ 32 ∷ 50 ∷ 48 ∷ []) ∷
-    -- a comment, blanks, zeros in front, and a comment without a blank: '#c\n \t\n0009\t19#c\n'
+    -- a comment, blanks, leading zeros, and a comment without a blank: '#c\n \t\n0009\t19#c\n'
     (35 ∷ 99 ∷ 10 ∷ 32 ∷ 9 ∷ 10 ∷ 48 ∷ 48 ∷ 48 ∷ 57 ∷ 9 ∷ 49 ∷ 57 ∷ 35 ∷ 99 ∷ 10 ∷ []) ∷
     -- a dropped line: '8 18\n9 19'
     (56 ∷ 32 ∷ 49 ∷ 56 ∷ 10 ∷ 57 ∷ 32 ∷ 49 ∷ 57 ∷ []) ∷
@@ -20,9 +20,9 @@ files =
     [] ∷
     -- data, and no offset 19: '9 18'
     (57 ∷ 32 ∷ 49 ∷ 56 ∷ []) ∷
-    -- a letter behind the offset, in line 2: '#\n9 19s'
+    -- a letter after the offset, in line 2: '#\n9 19s'
     (35 ∷ 10 ∷ 57 ∷ 32 ∷ 49 ∷ 57 ∷ 115 ∷ []) ∷
-    -- a blank in front: ' 9 19'
+    -- a leading blank: ' 9 19'
     (32 ∷ 57 ∷ 32 ∷ 49 ∷ 57 ∷ []) ∷
     -- a comment that ends in CR: '#\r\n9 19'
     (35 ∷ 13 ∷ 10 ∷ 57 ∷ 32 ∷ 49 ∷ 57 ∷ []) ∷
@@ -71,5 +71,5 @@ readings =
     []
 
 pub every-example : map listRead files ≡ readings
-unfolding front behind endsInReturn firstMalformed recordsIn hasFirst upToFirst behindFirst orderRefusal someAbove
+unfolding takeWhile dropWhile endsInReturn firstMalformed recordsIn hasFirst upToFirst afterFirst orderRefusal someAbove
 every-example = refl

@@ -1,4 +1,4 @@
--- What stands in a line and what stands in the text that begins with it: no byte that a part of a line is made of ends
+-- What is in a line and what is in the text that begins with it: no byte that a part of a line is made of ends
 -- the line, so a reader may look at the text.
 use mathlib.Core.Path.{_≡_, refl, sym, ap, _∙_}
 use mathlib.Core.Bool.{Bool, true, false, cond, _&&_, _||_, true≢false, or-true, or-false}
@@ -12,7 +12,7 @@ use lib.Seq.{drop-cons, getD-take, getD-drop, length-take-le}
 use Rattle.refusals.specs.Outcome.{Outcome, refused}
 use Rattle.words.specs.Decimal.{isDigit, countRead}
 use Rattle.texts.specs.Ends.{untilEnd}
-use Rattle.published.specs.LeapSecondsList.{front, behind, begins, isBlank, isHash, endsInReturn}
+use Rattle.published.specs.LeapSecondsList.{takeWhile, dropWhile, begins, isBlank, isHash, endsInReturn}
 use Rattle.published.specs.LeapSecondsList.{in31Bits, offsetRead}
 use Rattle.published.specs.Places.{firstLine}
 
@@ -21,25 +21,25 @@ module _ (test : ℕ → Bool) (in-line : test 10 ≡ false) where
   fails : (b : ℕ) → eqb b 10 ≡ true → test b ≡ false
   fails b e = ap test (eqb-true b 10 e) ∙ in-line
 
-  pub behind-line : (s : List ℕ) → behind test (firstLine s) ≡ firstLine (behind test s)
-  unfolding behind
-  behind-line [] = refl
-  behind-line (b ∷ s) = by-byte (eqb b 10) refl (test b) refl (behind-line s)
+  pub drop-line : (s : List ℕ) → dropWhile test (firstLine s) ≡ firstLine (dropWhile test s)
+  unfolding dropWhile
+  drop-line [] = refl
+  drop-line (b ∷ s) = by-byte (eqb b 10) refl (test b) refl (drop-line s)
     where
-      by-byte : (t : Bool) → eqb b 10 ≡ t → (u : Bool) → test b ≡ u → behind test (firstLine s) ≡ firstLine (behind test s)
-          → behind test (firstLine (b ∷ s)) ≡ firstLine (behind test (b ∷ s))
+      by-byte : (t : Bool) → eqb b 10 ≡ t → (u : Bool) → test b ≡ u → dropWhile test (firstLine s) ≡ firstLine (dropWhile test s)
+          → dropWhile test (firstLine (b ∷ s)) ≡ firstLine (dropWhile test (b ∷ s))
       by-byte true e true f rest = absurd (true≢false (sym f ∙ fails b e))
       by-byte true e false f rest = rw (f, e)
       by-byte false e true f rest = rw (e, f) rest
       by-byte false e false f rest = rw (e, f, e)
 
-  pub front-line : (s : List ℕ) → front test (firstLine s) ≡ front test s
-  unfolding front
-  front-line [] = refl
-  front-line (b ∷ s) = by-byte (eqb b 10) refl (front-line s)
+  pub take-line : (s : List ℕ) → takeWhile test (firstLine s) ≡ takeWhile test s
+  unfolding takeWhile
+  take-line [] = refl
+  take-line (b ∷ s) = by-byte (eqb b 10) refl (take-line s)
     where
-      by-byte : (t : Bool) → eqb b 10 ≡ t → front test (firstLine s) ≡ front test s
-          → front test (firstLine (b ∷ s)) ≡ front test (b ∷ s)
+      by-byte : (t : Bool) → eqb b 10 ≡ t → takeWhile test (firstLine s) ≡ takeWhile test s
+          → takeWhile test (firstLine (b ∷ s)) ≡ takeWhile test (b ∷ s)
       by-byte true e rest = rw (e, fails b e)
       by-byte false e rest = rw (e, rest)
 
@@ -66,16 +66,16 @@ data-ends-line (b ∷ s) = by-byte (eqb b 10) refl
 -- the reader of an offset may look at the text
 pub offset-line : (s : List ℕ)
     → offsetRead (firstLine s)
-    ≡ cond (begins false isBlank s && begins true endsData (behind isBlank (behind isDigit (behind isBlank s))))
-    (in31Bits (countRead (front isDigit (behind isBlank s)))) (refused 12)
+    ≡ cond (begins false isBlank s && begins true endsData (dropWhile isBlank (dropWhile isDigit (dropWhile isBlank s))))
+    (in31Bits (countRead (takeWhile isDigit (dropWhile isBlank s)))) (refused 12)
 offset-line s =
     rw (
       begins-line isBlank refl s,
-      behind-line isBlank refl s,
-      behind-line isDigit refl (behind isBlank s),
-      behind-line isBlank refl (behind isDigit (behind isBlank s)),
-      data-ends-line (behind isBlank (behind isDigit (behind isBlank s))),
-      front-line isDigit refl (behind isBlank s),
+      drop-line isBlank refl s,
+      drop-line isDigit refl (dropWhile isBlank s),
+      drop-line isBlank refl (dropWhile isDigit (dropWhile isBlank s)),
+      data-ends-line (dropWhile isBlank (dropWhile isDigit (dropWhile isBlank s))),
+      take-line isDigit refl (dropWhile isBlank s),
     )
 
 -- ---- the last byte of a line
@@ -101,13 +101,13 @@ no-return b e = by-byte (eqb b 32) refl e
     by-byte true f g = ap (λ (x : ℕ). eqb x 13) (eqb-true b 32 f)
     by-byte false f g = ap (λ (x : ℕ). eqb x 13) (eqb-true b 9 g)
 
-pub blanks-end : (l : List ℕ) → length (behind isBlank l) ≡ 0 → endsInReturn l ≡ false
-unfolding behind endsInReturn
+pub blanks-end : (l : List ℕ) → length (dropWhile isBlank l) ≡ 0 → endsInReturn l ≡ false
+unfolding dropWhile endsInReturn
 blanks-end [] h = refl
 blanks-end (b ∷ bs) h = by-byte (isBlank b) refl h (eqb (length bs) 0) (blanks-end bs)
   where
-    by-byte : (t : Bool) → isBlank b ≡ t → length (cond t (behind isBlank bs) (b ∷ bs)) ≡ 0 → (u : Bool)
-        → (length (behind isBlank bs) ≡ 0 → endsInReturn bs ≡ false) → cond u (eqb b 13) (endsInReturn bs) ≡ false
+    by-byte : (t : Bool) → isBlank b ≡ t → length (cond t (dropWhile isBlank bs) (b ∷ bs)) ≡ 0 → (u : Bool)
+        → (length (dropWhile isBlank bs) ≡ 0 → endsInReturn bs ≡ false) → cond u (eqb b 13) (endsInReturn bs) ≡ false
     by-byte true e h true rest = no-return b e
     by-byte true e h false rest = rest h
     by-byte false e h u rest = absurd (omega arith)

@@ -13,11 +13,11 @@ use Rattle.words.specs.Decimal.{isDigit, countRead}
 use Rattle.texts.specs.Ends.{untilEnd}
 use Rattle.texts.proofs.LineEnds.{passed}
 use Rattle.texts.proofs.FirstLine.{until-within}
-use Rattle.published.specs.LeapSecondsList.{Line, passes, holds, malformed, front, behind, begins, isBlank, isHash}
+use Rattle.published.specs.LeapSecondsList.{Line, passes, holds, malformed, takeWhile, dropWhile, begins, isBlank, isHash}
 use Rattle.published.specs.LeapSecondsList.{endsInReturn, offsetRead, lineWith, recordAt, lineRead}
 use Rattle.published.specs.Places.{firstLine, Passed, in64Bits}
-use Rattle.published.proofs.Parts.{front-here, behind-here}
-use Rattle.published.proofs.InLine.{behind-line, front-line, begins-line, blanks-end}
+use Rattle.published.proofs.Parts.{take-here, drop-here}
+use Rattle.published.proofs.InLine.{drop-line, take-line, begins-line, blanks-end}
 use Rattle.published.proofs.Digits.{from-zero}
 use Rattle.published.proofs.Offsets.{begins-at, is-read}
 
@@ -67,19 +67,19 @@ module _ (s : List ℕ) (at : ℕ) (inside : at < length s) where
     no-hash : begins false isHash line ≡ false
     no-hash = begins-with isHash refl ∙ other
 
-    left : behind isBlank line ≡ firstLine (drop end s)
-    left = behind-line isBlank refl (drop at s) ∙ ap firstLine (sym (blanks .0))
+    left : dropWhile isBlank line ≡ firstLine (drop end s)
+    left = drop-line isBlank refl (drop at s) ∙ ap firstLine (sym (blanks .0))
 
     pub blanks-pass : untilEnd (drop end s) ≡ 0 → passes ≡ lineRead line
     blanks-pass e =
-        let none : behind isBlank line ≡ [] = left ∙ rw e in
+        let none : dropWhile isBlank line ≡ [] = left ∙ rw e in
         rw (blanks-end line (ap length none), no-hash, none)
 
     pub blanks-fail : isDigit (getD s at 0) ≡ false → 0 < untilEnd (drop end s) → malformed ≡ lineRead line
     blanks-fail d h =
-        let some : length (behind isBlank line) ≡ untilEnd (drop end s) = ap length left ∙ length-line (drop end s) in
-        let none : front isDigit line ≡ [] = front-line isDigit refl (drop at s) ∙ front-here isDigit s at inside d in
-        rw (no-hash, ne-eqb (length (behind isBlank line)) 0 (λ e. omega (arith, e, some, h)), none)
+        let some : length (dropWhile isBlank line) ≡ untilEnd (drop end s) = ap length left ∙ length-line (drop end s) in
+        let none : takeWhile isDigit line ≡ [] = take-line isDigit refl (drop at s) ∙ take-here isDigit s at inside d in
+        rw (no-hash, ne-eqb (length (dropWhile isBlank line)) 0 (λ e. omega (arith, e, some, h)), none)
         (either-malformed (endsInReturn line))
 
   -- data
@@ -91,9 +91,9 @@ module _ (s : List ℕ) (at : ℕ) (inside : at < length s) where
     not-blank =
         rw (ne-eqb (getD s at 0) 32 (not-byte 32 (omega arith)), ne-eqb (getD s at 0) 9 (not-byte 9 (omega arith)))
 
-    no-blanks : length (behind isBlank line) ≡ untilEnd (drop at s)
+    no-blanks : length (dropWhile isBlank line) ≡ untilEnd (drop at s)
     no-blanks =
-        ap length (behind-line isBlank refl (drop at s) ∙ ap firstLine (behind-here isBlank s at inside not-blank))
+        ap length (drop-line isBlank refl (drop at s) ∙ ap firstLine (drop-here isBlank s at inside not-blank))
         ∙ length-line (drop at s)
 
     pub data-not-empty : 0 < untilEnd (drop at s)
@@ -101,26 +101,26 @@ module _ (s : List ℕ) (at : ℕ) (inside : at < length s) where
 
     data-read : lineRead line
         ≡ cond (endsInReturn line) malformed
-        (lineWith (countRead (front isDigit (drop at s))) (offsetRead (firstLine (behind isDigit (drop at s)))))
+        (lineWith (countRead (takeWhile isDigit (drop at s))) (offsetRead (firstLine (dropWhile isDigit (drop at s)))))
     data-read =
         rw (
           begins-with isHash refl,
           ne-eqb (getD s at 0) 35 (not-byte 35 (omega arith)),
-          ne-eqb (length (behind isBlank line)) 0 (λ e. omega (arith, e, no-blanks, data-not-empty)),
-          front-line isDigit refl (drop at s),
-          behind-line isDigit refl (drop at s),
+          ne-eqb (length (dropWhile isBlank line)) 0 (λ e. omega (arith, e, no-blanks, data-not-empty)),
+          take-line isDigit refl (drop at s),
+          drop-line isDigit refl (drop at s),
         )
 
-    pub data-no-number : refused 12 ≡ in64Bits (countRead (front isDigit (drop at s))) → malformed ≡ lineRead line
+    pub data-no-number : refused 12 ≡ in64Bits (countRead (takeWhile isDigit (drop at s))) → malformed ≡ lineRead line
     data-no-number e =
-        sym (data-read ∙ rw (no-number (countRead (front isDigit (drop at s))) _ e) (sym (either-malformed (endsInReturn line))))
+        sym (data-read ∙ rw (no-number (countRead (takeWhile isDigit (drop at s))) _ e) (sym (either-malformed (endsInReturn line))))
 
     pub data-returns : endsInReturn line ≡ true → malformed ≡ lineRead line
     data-returns e = rw e
 
-    module _ (ntp i : ℕ) (is : answered ntp ≡ in64Bits (countRead (front isDigit (drop at s)))) (digits : Passed isDigit s at i) where
-      abbrev read : countRead (front isDigit (drop at s)) ≡ answered ntp
-      read = is-read (countRead (front isDigit (drop at s))) ntp is
+    module _ (ntp i : ℕ) (is : answered ntp ≡ in64Bits (countRead (takeWhile isDigit (drop at s)))) (digits : Passed isDigit s at i) where
+      abbrev read : countRead (takeWhile isDigit (drop at s)) ≡ answered ntp
+      read = is-read (countRead (takeWhile isDigit (drop at s))) ntp is
 
       pub data-no-offset : refused 12 ≡ offsetRead (firstLine (drop i s)) → malformed ≡ lineRead line
       data-no-offset e = sym (data-read ∙ rw (read, ← digits .0, ← e) (sym (either-malformed (endsInReturn line))))

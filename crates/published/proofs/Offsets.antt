@@ -1,4 +1,4 @@
--- The reader of an offset, step by step: blanks, the number, blanks, and what stands behind them.
+-- The reader of an offset, step by step: blanks, the number, blanks, and what follows them.
 use mathlib.Core.Path.{_≡_, refl, sym, ap, subst, _∙_}
 use mathlib.Core.Bool.{Bool, true, false, cond, _&&_, and-false}
 use mathlib.Core.List.{List, [], _∷_}
@@ -11,7 +11,7 @@ use lib.Seq.{drop-cons}
 use Rattle.refusals.specs.Outcome.{Outcome, answered, refused}
 use Rattle.words.specs.Decimal.{isDigit, countRead}
 use Rattle.texts.specs.Ends.{untilEnd, NoEndBetween}
-use Rattle.published.specs.LeapSecondsList.{front, behind, begins, isBlank, in31Bits, offsetRead}
+use Rattle.published.specs.LeapSecondsList.{takeWhile, dropWhile, begins, isBlank, in31Bits, offsetRead}
 use Rattle.published.specs.Places.{firstLine, Passed, in64Bits, numberFound, NumberEnds}
 use Rattle.published.specs.declared.inner.NumberRead.{NumberRead}
 use Rattle.published.specs.declared.inner.NumberRead.the-variants as number
@@ -49,11 +49,11 @@ module _ (s : List ℕ) where
 
   module _ (start : ℕ) (blanks : Passed isBlank s 0 start) where
     abbrev read : Outcome ℕ
-    read = countRead (front isDigit (drop start s))
+    read = countRead (takeWhile isDigit (drop start s))
 
     not-in-31 : in31Bits read ≡ refused 12 → refused 12 ≡ offsetRead (firstLine s)
     not-in-31 e =
-        let ended = begins true endsData (behind isBlank (behind isDigit (drop start s))) in
+        let ended = begins true endsData (dropWhile isBlank (dropWhile isDigit (drop start s))) in
         sym (offset-line s ∙ rw (← blanks .0, e) (either (begins false isBlank s && ended) (refused 12)))
 
     pub no-offset : refused 12 ≡ in64Bits read → refused 12 ≡ offsetRead (firstLine s)
@@ -64,16 +64,16 @@ module _ (s : List ℕ) where
       too-large h = not-in-31 (rw (is-read read n is, le-ltb n (2 ^ 31) h))
 
       module _ (stop : ℕ) (blanks-on : Passed isBlank s i stop) where
-        behind-all : drop stop s ≡ behind isBlank (behind isDigit (behind isBlank s))
-        behind-all = blanks-on .0 ∙ ap (behind isBlank) (digits .0 ∙ ap (behind isDigit) (blanks .0))
+        after-all : drop stop s ≡ dropWhile isBlank (dropWhile isDigit (dropWhile isBlank s))
+        after-all = blanks-on .0 ∙ ap (dropWhile isBlank) (digits .0 ∙ ap (dropWhile isDigit) (blanks .0))
 
         pub ends : NoEndBetween s 0 stop
         ends = in-one-line s 0 start stop (blanks .1) (in-one-line s start i stop (digits .1) (blanks-on .1))
 
         pub not-ended : begins true endsData (drop stop s) ≡ false → refused 12 ≡ offsetRead (firstLine s)
-        not-ended e = sym (offset-line s ∙ rw (← behind-all, e, and-false))
+        not-ended e = sym (offset-line s ∙ rw (← after-all, e, and-false))
 
         pub is-offset : begins false isBlank s ≡ true → n < 2 ^ 31 → begins true endsData (drop stop s) ≡ true
             → answered n ≡ offsetRead (firstLine s)
         is-offset b h e =
-            sym (offset-line s ∙ rw (← behind-all, b, e, ← blanks .0, is-read read n is, lt-ltb n (2 ^ 31) h))
+            sym (offset-line s ∙ rw (← after-all, b, e, ← blanks .0, is-read read n is, lt-ltb n (2 ^ 31) h))

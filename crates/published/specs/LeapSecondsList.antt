@@ -13,15 +13,15 @@ use Rattle.tables.specs.declared.LeapTable.{LeapTable}
 use Rattle.records.specs.Records.{Record, recordOf, tableFrom}
 
 -- ---- parts of a line
--- the bytes in front that pass a test
-unfoldable pub front : (ℕ → Bool) → List ℕ → List ℕ
-front test [] = []
-front test (b ∷ bs) = cond (test b) (b ∷ front test bs) []
+-- the leading bytes that pass a test
+unfoldable pub takeWhile : (ℕ → Bool) → List ℕ → List ℕ
+takeWhile test [] = []
+takeWhile test (b ∷ bs) = cond (test b) (b ∷ takeWhile test bs) []
 
--- the bytes behind them
-unfoldable pub behind : (ℕ → Bool) → List ℕ → List ℕ
-behind test [] = []
-behind test (b ∷ bs) = cond (test b) (behind test bs) (b ∷ bs)
+-- the bytes after them
+unfoldable pub dropWhile : (ℕ → Bool) → List ℕ → List ℕ
+dropWhile test [] = []
+dropWhile test (b ∷ bs) = cond (test b) (dropWhile test bs) (b ∷ bs)
 
 -- the first byte passes a test; `none` where there is none
 abbrev pub begins : Bool → (ℕ → Bool) → List ℕ → Bool
@@ -53,11 +53,11 @@ abbrev pub in31Bits : Outcome ℕ → Outcome ℕ
 in31Bits (answered n) = cond (ltb n (2 ^ 31)) (answered n) (refused 12)
 in31Bits (refused k) = refused 12
 
--- the rest of a line behind the NTP seconds: one or more blanks, the offset, any blanks, perhaps a comment
+-- the rest of a line after the NTP seconds: one or more blanks, the offset, any blanks, perhaps a comment
 abbrev pub offsetRead : List ℕ → Outcome ℕ
 offsetRead rest =
-    cond (begins false isBlank rest && begins true isHash (behind isBlank (behind isDigit (behind isBlank rest))))
-    (in31Bits (countRead (front isDigit (behind isBlank rest)))) (refused 12)
+    cond (begins false isBlank rest && begins true isHash (dropWhile isBlank (dropWhile isDigit (dropWhile isBlank rest))))
+    (in31Bits (countRead (takeWhile isDigit (dropWhile isBlank rest)))) (refused 12)
 
 -- NTP seconds are counted from 1900: 2,524,953,600 of them up to 1980-01-06
 abbrev pub recordAt : ℕ → ℕ → Record
@@ -73,8 +73,8 @@ lineWith (refused k) n = malformed
 abbrev pub lineRead : List ℕ → Line
 lineRead l =
     cond (endsInReturn l) malformed
-    (cond (begins false isHash l || eqb (length (behind isBlank l)) 0) passes
-    (lineWith (countRead (front isDigit l)) (offsetRead (behind isDigit l))))
+    (cond (begins false isHash l || eqb (length (dropWhile isBlank l)) 0) passes
+    (lineWith (countRead (takeWhile isDigit l)) (offsetRead (dropWhile isDigit l))))
 
 -- ---- the file
 -- the number of the first malformed line, where the first line is number k; 0 where there is none

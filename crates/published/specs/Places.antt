@@ -11,7 +11,7 @@ use Rattle.texts.specs.Ends.{untilEnd, NoEndBetween}
 use Rattle.tables.specs.Answers.{takenIn}
 use Rattle.records.specs.Records.{event}
 use Rattle.records.specs.Seconds.{recordIn}
-use Rattle.published.specs.LeapSecondsList.{Line, passes, holds, malformed, front, behind, offsetRead, lineRead, Reading, reading}
+use Rattle.published.specs.LeapSecondsList.{Line, passes, holds, malformed, takeWhile, dropWhile, offsetRead, lineRead, Reading, reading}
 use Rattle.published.specs.declared.ListAnswer.{ListAnswer}
 use Rattle.published.specs.declared.inner.NumberRead.{NumberRead}
 use Rattle.published.specs.declared.inner.NumberRead.the-variants as number
@@ -24,17 +24,17 @@ use Rattle.published.specs.declared.inner.LineRead.the-variants as line
 abbrev pub firstLine : List ℕ → List ℕ
 firstLine s = take (untilEnd s) s
 
--- from `at` to i stand the bytes that pass a test, in one line
+-- the bytes from `at` to i pass a test, the next one does not, and they are in one line
 abbrev pub Passed : (ℕ → Bool) → List ℕ → ℕ → ℕ → Type 0
-Passed test s at i = (drop i s ≡ behind test (drop at s)) × NoEndBetween s at i
+Passed test s at i = (drop i s ≡ dropWhile test (drop at s)) × NoEndBetween s at i
 
--- the same of a search that may go on: what is behind from `at` on is behind from i on
+-- the same of a search that may go on: what is left from `at` on is what is left from i on
 abbrev pub Passing : (ℕ → Bool) → List ℕ → ℕ → ℕ → Type 0
-Passing test s at i = (behind test (drop at s) ≡ behind test (drop i s)) × NoEndBetween s at i
+Passing test s at i = (dropWhile test (drop at s) ≡ dropWhile test (drop i s)) × NoEndBetween s at i
 
 -- the digits from `at` on
 abbrev pub digits : List ℕ → ℕ → List ℕ
-digits s at = front isDigit (drop at s)
+digits s at = takeWhile isDigit (drop at s)
 
 -- those from i on say, after `value`, what all of them say
 pub record ReadTo (s : List ℕ) (at value i : ℕ) : Type 0 where
@@ -59,7 +59,7 @@ abbrev pub NumberEnds : List ℕ → ℕ → NumberRead → Type 0
 NumberEnds s at (number.Number n i) = Passed isDigit s at i × (n < 2 ^ 64)
 NumberEnds s at number.Malformed = Unit {0}
 
--- an offset, and a place behind it in the same line
+-- an offset, and a place after it in the same line
 abbrev pub offsetFound : OffsetRead → Outcome ℕ
 offsetFound (offset.Offset n used) = answered n
 offsetFound offset.Malformed = refused 12

@@ -1,5 +1,5 @@
-// The parts of a list where they stand in the file. Nothing is copied, and each reader goes on where the one before it
-// stopped; only the last byte of a line is looked at again, where it may be a carriage return.
+// The parts of a list, read in place. Nothing is copied, and each reader goes on where the one before it stopped;
+// only the last byte of a line is looked at again, where it may be a carriage return.
 ghost use mathlib.Core.Path.{_≡_};
 ghost use mathlib.Core.Bool.{true, false, cond};
 ghost use mathlib.Core.List.{[]};
@@ -32,7 +32,7 @@ const RETURN: u8 = 13;
 
 const MOST_DIGITS: usize = 20;
 
-// Any number of so many digits fits 64 bits.
+// Any number of up to 19 digits fits 64 bits.
 const SAFE_DIGITS: usize = 19;
 
 // NTP seconds up to 1980-01-06, where TAI counts begin.
@@ -40,13 +40,13 @@ const NTP_SECONDS_TO_1980: u64 = 2_524_953_600;
 
 const LARGEST_OFFSET: u64 = i32::MAX as u64;
 
-// A number and the place behind it.
+// A number and the place after it.
 pub enum NumberRead {
     Number(u64, usize),
     Malformed,
 }
 
-// An offset and the place where the blanks behind it end.
+// An offset and the place where the blanks after it end.
 pub enum OffsetRead {
     Offset(u64, usize),
     Malformed,
@@ -121,7 +121,7 @@ fn read_last_digit(s: &[u8], at: usize, value: u64, i: usize) -> NumberRead
     number_to(total, at, k)
 }
 
-// The number of 64 bits in 1 to 20 digits from `at` on. Up to 19 digits fit whatever they are, so they are not tested.
+// The number of 64 bits in 1 to 20 digits from `at` on. Any 19 digits fit, so they are not tested.
 fn read_number(s: &[u8], at: usize) -> NumberRead
     requires { ⌜ at ≤ length (now s) ⌝ }
     ensures is { λ r. ⌜ numberFound r ≡ in64Bits (countRead (digits (now (s .entry)) at)) ⌝ }
@@ -165,13 +165,13 @@ fn read_offset(rest: &[u8]) -> OffsetRead
         return OffsetRead::Malformed;
     }
     let start = skip_blanks(rest, 0);
-    let NumberRead::Number(offset, behind) = read_number(rest, start) else {
+    let NumberRead::Number(offset, after) = read_number(rest, start) else {
         return OffsetRead::Malformed;
     };
     if LARGEST_OFFSET < offset {
         return OffsetRead::Malformed;
     }
-    let stop = skip_blanks(rest, behind);
+    let stop = skip_blanks(rest, after);
     if stop == rest.len() {
         return OffsetRead::Offset(offset, stop);
     }
@@ -238,7 +238,7 @@ fn read_blanks(s: &[u8], at: usize) -> LineRead
     }
 }
 
-// A line that begins with a digit. What stands behind the NTP seconds goes to the reader of the offset, and the place
+// A line that begins with a digit. What follows the NTP seconds goes to the reader of the offset, and the place
 // where that one stopped is added to the place where it began.
 fn read_data(s: &[u8], at: usize) -> LineRead
     requires { ⌜ at < length (now s) ⌝ }
@@ -246,13 +246,13 @@ fn read_data(s: &[u8], at: usize) -> LineRead
     ensures is { λ r. ⌜ lineFound r ≡ lineRead (firstLine (drop at (now (s .entry)))) ⌝ }
     ensures ends { λ r. ⌜ LineEnds (now (s .entry)) at r ⌝ }
 {
-    let NumberRead::Number(ntp, behind) = read_number(s, at) else {
+    let NumberRead::Number(ntp, after) = read_number(s, at) else {
         return LineRead::Malformed;
     };
-    let OffsetRead::Offset(offset, used) = read_offset(&s[behind..]) else {
+    let OffsetRead::Offset(offset, used) = read_offset(&s[after..]) else {
         return LineRead::Malformed;
     };
-    let end = next_end(s, behind + used);
+    let end = next_end(s, after + used);
     if ends_in_return(s, at, end) {
         LineRead::Malformed
     } else {

@@ -9,7 +9,7 @@ use lib.Dec.{eqb·suc-zero, ltb}
 use lib.ListN.{length, length-map}
 use lib.IntN.{ℤ, pos}
 use Rattle.tables.proofs.Integers.{equal-true}
-use Rattle.records.specs.Records.{Record, recordOf, event, isFirst, hasFirst, upToFirst, behindFirst, kept}
+use Rattle.records.specs.Records.{Record, recordOf, event, isFirst, hasFirst, upToFirst, afterFirst, kept}
 use Rattle.records.specs.Records.{orElse, followRefusal, orderRefusal, fileOrder, isAbove, someAbove, entryOf}
 use Rattle.records.specs.Records.{recordsRefusal}
 use Rattle.records.specs.Judged.{Judged, begun, dropped, keeping, byCount, judged, judgedAll, verdictOf}
@@ -41,7 +41,7 @@ unfolding orderFrom
 after-one true at s m r rs = refl
 after-one false at s m r rs = from-first at r rs
 
--- ---- behind the first with offset 19
+-- ---- after the first with offset 19
 -- what a verdict looks at
 record Sees (j : Judged) (count : ℕ) (above : Bool) (why : ℕ) : Type 0 where
   some : j .some ≡ true
@@ -59,13 +59,13 @@ is-kept j r h = go (j .count) h
 pub is-dropped : (j : Judged) (r : Record) → j .count ≡ 0 → judged j r ≡ dropped j r
 is-dropped j r z = ap (λ (n : ℕ). byCount n (dropped j r) (keeping j r)) z
 
-behind : (j : Judged) (rs : List Record) → j .some ≡ true → 0 < j .count
+after : (j : Judged) (rs : List Record) → j .some ≡ true → 0 < j .count
     → Sees (judgedAll j rs) (j .count + length rs) (j .above || someAbove rs)
     (orElse (j .why) (orderFrom byThreshold (j .second) (j .offset) rs))
 unfolding judgedAll someAbove orderFrom
-behind j [] s h =
+after j [] s h =
     record { some = s; counts = omega arith; aboves = sym (or-false (j .above)); whys = sym (nothing-else (j .why)) }
-behind j (r ∷ rs) s h =
+after j (r ∷ rs) s h =
     let n : suc (j .count) + length rs ≡ j .count + suc (length rs) = omega arith in
     rw (
       is-kept j r h,
@@ -74,7 +74,7 @@ behind j (r ∷ rs) s h =
       ← orElse-assoc (j .why) (followRefusal (j .second) (j .offset) (r .threshold) (r .offset))
           (orderFrom byThreshold (r .threshold) (r .offset) rs),
     )
-    (behind (keeping j r) rs refl (omega arith))
+    (after (keeping j r) rs refl (omega arith))
 
 -- ---- up to it
 -- `dropped`, by whether the record is the first with offset 19
@@ -91,7 +91,7 @@ droppedBy first j r = record {
 
 abbrev Whole : Judged → List Record → Type 0
 Whole j rs =
-    Sees (judgedAll j rs) (suc (length (behindFirst rs))) (j .above || someAbove (behindFirst rs))
+    Sees (judgedAll j rs) (suc (length (afterFirst rs))) (j .above || someAbove (afterFirst rs))
     (orElse (j .why)
     (orElse (orderAfter (j .some) event (j .second) (j .offset) (upToFirst rs)) (orderRefusal byThreshold (kept rs))))
 
@@ -100,7 +100,7 @@ module _ (j : Judged) (r : Record) (rs : List Record) (z : j .count ≡ 0) where
   follow = cond (j .some) (followRefusal (j .second) (j .offset) (event r) (r .offset)) 0
 
   first-here : isFirst r ≡ true → Whole j (r ∷ rs)
-  unfolding judgedAll behindFirst upToFirst orderFrom
+  unfolding judgedAll afterFirst upToFirst orderFrom
   first-here e =
       let is : r .offset ≡ pos 19 = equal-true (r .offset) (pos 19) e in
       let n : 1 + length rs ≡ suc (length rs) = omega arith in
@@ -114,10 +114,10 @@ module _ (j : Judged) (r : Record) (rs : List Record) (z : j .count ≡ 0) where
         ← orElse-assoc (j .why) follow (orderFrom byThreshold (pos 0) (pos 19) rs),
         ← is,
       )
-      (behind (droppedBy true j r) rs refl (omega arith))
+      (after (droppedBy true j r) rs refl (omega arith))
 
   first-later : isFirst r ≡ false → Whole (droppedBy false j r) rs → Whole j (r ∷ rs)
-  unfolding judgedAll behindFirst upToFirst
+  unfolding judgedAll afterFirst upToFirst
   first-later e rest =
       rw (
         is-dropped j r z,
@@ -151,13 +151,13 @@ none-kept j (r ∷ rs) z f = go (isFirst r) refl f (none-kept (droppedBy false j
     go false e f rest =
         ap (λ (k : Judged). judgedAll k rs .count) (is-dropped j r z ∙ ap (λ (b : Bool). droppedBy b j r) e) ∙ rest f
 
-pub nothing-behind : (rs : List Record) → hasFirst rs ≡ false → behindFirst rs ≡ []
-unfolding hasFirst behindFirst
-nothing-behind [] f = refl
-nothing-behind (r ∷ rs) f = go (isFirst r) f (nothing-behind rs)
+pub nothing-after : (rs : List Record) → hasFirst rs ≡ false → afterFirst rs ≡ []
+unfolding hasFirst afterFirst
+nothing-after [] f = refl
+nothing-after (r ∷ rs) f = go (isFirst r) f (nothing-after rs)
   where
-    go : (b : Bool) → (b || hasFirst rs) ≡ false → (hasFirst rs ≡ false → behindFirst rs ≡ [])
-        → cond b rs (behindFirst rs) ≡ []
+    go : (b : Bool) → (b || hasFirst rs) ≡ false → (hasFirst rs ≡ false → afterFirst rs ≡ [])
+        → cond b rs (afterFirst rs) ≡ []
     go true f rest = absurd (true≢false f)
     go false f rest = rest f
 
@@ -175,7 +175,7 @@ pub counted : (rs : List Record) → judgedAll begun rs .count ≡ length (keptE
 counted rs = go (hasFirst rs) refl
   where
     go : (b : Bool) → hasFirst rs ≡ b → judgedAll begun rs .count ≡ length (keptEntries rs)
-    go true f = rw f (whole begun rs refl f .counts ∙ ap suc (sym (length-map (behindFirst rs) entryOf)))
+    go true f = rw f (whole begun rs refl f .counts ∙ ap suc (sym (length-map (afterFirst rs) entryOf)))
     go false f = rw f (none-kept begun rs refl f)
 
 pub all-judged : (none : ℕ) (rs : List Record) → verdictOf none (judgedAll begun rs) ≡ recordsRefusal none rs
@@ -187,16 +187,16 @@ all-judged none (r ∷ rs) = go (hasFirst (r ∷ rs)) refl
         → verdictOf none (judgedAll begun (r ∷ rs)) ≡ recordsRefusal none (r ∷ rs)
     go true f =
         let w = whole begun (r ∷ rs) refl f in
-        let long = ltb 64 (suc (length (behindFirst (r ∷ rs)))) in
+        let long = ltb 64 (suc (length (afterFirst (r ∷ rs)))) in
         rw (
           w .some,
           w .counts,
           w .aboves,
           w .whys,
           eqb·suc-zero (length rs),
-          eqb·suc-zero (length (behindFirst (r ∷ rs))),
+          eqb·suc-zero (length (afterFirst (r ∷ rs))),
           f,
-          by-test (someAbove (behindFirst (r ∷ rs))) 0 (orElse (cond long 5 0) (fileOrder (r ∷ rs))),
+          by-test (someAbove (afterFirst (r ∷ rs))) 0 (orElse (cond long 5 0) (fileOrder (r ∷ rs))),
           by-test long 4 (fileOrder (r ∷ rs)),
         )
     go false f =

@@ -11,7 +11,7 @@ use lib.ListN.{length, set, replicate, length-append}
 use lib.IntN.{ℤ, pos}
 use Rattle.tables.specs.Entries.{Entry, threshold, offset, entry}
 use Rattle.tables.specs.Slots.{tableOf}
-use Rattle.records.specs.Records.{Record, isFirst, hasFirst, behindFirst, kept, someAbove, entryOf}
+use Rattle.records.specs.Records.{Record, isFirst, hasFirst, afterFirst, kept, someAbove, entryOf}
 use Rattle.records.specs.Records.{recordsRefusal, tableFrom}
 use Rattle.records.specs.Judged.{Judged, judgedIn, begun, dropped, keeping, byCount, judged, judgedAll}
 use Rattle.records.specs.Judged.{verdictOf, keptEntries, Holds}
@@ -78,11 +78,11 @@ module _ (rs : List Record) (ts : List ℕ) (ns : List ℤ) (p q : Progress) (r 
         counts-all,
       )
 
-  held-thresholds : someAbove (behindFirst all) ≡ false → length (keptEntries all) ≤ 64
+  held-thresholds : someAbove (afterFirst all) ≡ false → length (keptEntries all) ≤ 64
       → ts ≡ tableOf (keptEntries rs) .thresholds
   held-thresholds a l = h .thresholds (above-before rs r a) (omega (arith, fewer-before))
 
-  held-offsets : someAbove (behindFirst all) ≡ false → length (keptEntries all) ≤ 64
+  held-offsets : someAbove (afterFirst all) ≡ false → length (keptEntries all) ≤ 64
       → ns ≡ tableOf (keptEntries rs) .offsets
   held-offsets a l = h .offsets (above-before rs r a) (omega (arith, fewer-before))
 
@@ -111,14 +111,14 @@ module _ (rs : List Record) (ts : List ℕ) (ns : List ℤ) (p q : Progress) (r 
 
   -- else it is stored in the slot past the entries before it
   module _ (some : 0 < q .count) (room : q .count ≤ 64) where
-    last-kept : someAbove (behindFirst all) ≡ false
+    last-kept : someAbove (afterFirst all) ≡ false
         → keptEntries all ≡ keptEntries rs ++ entry (q .nanos) (q .offset) ∷ []
     last-kept a =
         let n : 0 < judged (judgedAll begun rs) r .count = omega (arith, ap (λ (j : Judged). j .count) seen-now) in
         kept-more rs r a n
         ∙ ap (λ (j : Judged). keptEntries rs ++ entry (j .nanos) (j .offset) ∷ []) (sym seen-now)
 
-    stored : {A : Type 0} (f : Entry → A) (z : A) (xs : List A) → someAbove (behindFirst all) ≡ false
+    stored : {A : Type 0} (f : Entry → A) (z : A) (xs : List A) → someAbove (afterFirst all) ≡ false
         → xs ≡ map f (keptEntries rs) ++ replicate (64 - length (keptEntries rs)) z
         → set xs (q .count - 1) (f (entry (q .nanos) (q .offset)))
         ≡ map f (keptEntries all) ++ replicate (64 - length (keptEntries all)) z

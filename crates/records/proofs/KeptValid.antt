@@ -16,7 +16,7 @@ use Rattle.tables.specs.Entries.{threshold, entry, neighbours, follows, valid}
 use Rattle.tables.specs.Slots.{validTable}
 use Rattle.tables.proofs.Neighbours.{zero-follows}
 use Rattle.tables.proofs.Buildings.{table-valid}
-use Rattle.records.specs.Records.{Record, recordOf, hasFirst, behindFirst, upToFirst, kept, event, orElse}
+use Rattle.records.specs.Records.{Record, recordOf, hasFirst, afterFirst, upToFirst, kept, event, orElse}
 use Rattle.records.specs.Records.{followRefusal, orderRefusal, fileOrder, isAbove, someAbove, recordsRefusal}
 use Rattle.records.specs.Records.{nanosOf, entryOf, tableFrom}
 use Rattle.records.proofs.OrElse.{both-zero}
@@ -25,7 +25,7 @@ use Rattle.records.proofs.AllRecords.{byThreshold, orderFrom, from-firs
 -- ---- what it means that nothing refuses them
 pub record Accepted (rs : List Record) : Type 0 where
   pub has-first : hasFirst rs ≡ true
-  pub none-above : someAbove (behindFirst rs) ≡ false
+  pub none-above : someAbove (afterFirst rs) ≡ false
   pub few : length (kept rs) ≤ 64
   pub in-order : fileOrder rs ≡ 0
 
@@ -41,7 +41,7 @@ by-tests false true false false none k p z = (refl, refl, refl, z)
 pub accepted : (none : ℕ) (rs : List Record) → recordsRefusal none rs ≡ 0 → 0 < none → Accepted rs
 accepted none rs z p =
     let long = ltb 64 (length (kept rs)) in
-    let h = by-tests (eqb (length rs) 0) (hasFirst rs) (someAbove (behindFirst rs)) long none (fileOrder rs) p z in
+    let h = by-tests (eqb (length rs) 0) (hasFirst rs) (someAbove (afterFirst rs)) long none (fileOrder rs) p z in
     record { has-first = h .0; none-above = h .1; few = ltb-false _ _ (h .2); in-order = h .3 }
 
 -- ---- seconds and nanoseconds have the same order
@@ -95,15 +95,15 @@ module _ (none : ℕ) (rs : List Record) (z : recordsRefusal none rs ≡ 0) (p :
   accepted-valid =
       let all = both-zero (orderRefusal event (upToFirst rs)) (orderRefusal byThreshold (kept rs))
       (accepted none rs z p .in-order) in
-      valid-from 0 (pos 19) (behindFirst rs)
-      (sym (from-first byThreshold (recordOf (pos 0) (pos 19)) (behindFirst rs)) ∙ all .1)
+      valid-from 0 (pos 19) (afterFirst rs)
+      (sym (from-first byThreshold (recordOf (pos 0) (pos 19)) (afterFirst rs)) ∙ all .1)
 
   pub accepted-few : length (map entryOf (kept rs)) ≤ 64
   accepted-few = rw (length-map (kept rs) entryOf) (accepted none rs z p .few)
 
   pub accepted-counts : (k : ℕ) → threshold (getD (map entryOf (kept rs)) k (entry 0 (pos 0))) < 2 ^ 64
   accepted-counts zero = omega arith
-  accepted-counts (suc k) = are-counts (behindFirst rs) (accepted none rs z p .none-above) k
+  accepted-counts (suc k) = are-counts (afterFirst rs) (accepted none rs z p .none-above) k
 
 -- so the table that is made of records is valid; with no entry it is too
 pub made-valid : (none : ℕ) (rs : List Record) → 0 < none → validTable (tableFrom none rs .1) ≡ true

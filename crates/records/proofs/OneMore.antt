@@ -7,9 +7,9 @@ use native.Mathlib.Omega.{arith}
 use lib.IntN.{pos}
 use Rattle.tables.specs.Entries.{entry}
 use Rattle.tables.proofs.Integers.{equal-true}
-use Rattle.records.specs.Records.{Record, isFirst, hasFirst, behindFirst, isAbove, someAbove, entryOf}
+use Rattle.records.specs.Records.{Record, isFirst, hasFirst, afterFirst, isAbove, someAbove, entryOf}
 use Rattle.records.specs.Judged.{Judged, begun, judged, judgedAll, keptEntries}
-use Rattle.records.proofs.AllRecords.{counted, nothing-behind, is-kept, is-dropped}
+use Rattle.records.proofs.AllRecords.{counted, nothing-after, is-kept, is-dropped}
 
 pub judged-more : (j : Judged) (rs : List Record) (r : Record)
     → judgedAll j (rs ++ r ∷ []) ≡ judged (judgedAll j rs) r
@@ -31,30 +31,30 @@ first-more (s ∷ rs) r = go (isFirst s) (first-more rs r)
     go true rest = refl
     go false rest = rest
 
-pub behind-more : (rs : List Record) (r : Record) → hasFirst rs ≡ true
-    → behindFirst (rs ++ r ∷ []) ≡ behindFirst rs ++ r ∷ []
-unfolding hasFirst behindFirst
-behind-more [] r f = cc
-behind-more (s ∷ rs) r f = go (isFirst s) f (behind-more rs r)
+pub after-more : (rs : List Record) (r : Record) → hasFirst rs ≡ true
+    → afterFirst (rs ++ r ∷ []) ≡ afterFirst rs ++ r ∷ []
+unfolding hasFirst afterFirst
+after-more [] r f = cc
+after-more (s ∷ rs) r f = go (isFirst s) f (after-more rs r)
   where
     go : (b : Bool) → (b || hasFirst rs) ≡ true
-        → (hasFirst rs ≡ true → behindFirst (rs ++ r ∷ []) ≡ behindFirst rs ++ r ∷ [])
-        → cond b (rs ++ r ∷ []) (behindFirst (rs ++ r ∷ [])) ≡ cond b rs (behindFirst rs) ++ r ∷ []
+        → (hasFirst rs ≡ true → afterFirst (rs ++ r ∷ []) ≡ afterFirst rs ++ r ∷ [])
+        → cond b (rs ++ r ∷ []) (afterFirst (rs ++ r ∷ [])) ≡ cond b rs (afterFirst rs) ++ r ∷ []
     go true f rest = refl
     go false f rest = rest f
 
--- nothing is behind the last record, whether or not it is the first with offset 19
-pub none-behind : (rs : List Record) (r : Record) → hasFirst rs ≡ false → behindFirst (rs ++ r ∷ []) ≡ []
-unfolding hasFirst behindFirst
-none-behind [] r f = go (isFirst r)
+-- nothing is after the last record, whether or not it is the first with offset 19
+pub none-after : (rs : List Record) (r : Record) → hasFirst rs ≡ false → afterFirst (rs ++ r ∷ []) ≡ []
+unfolding hasFirst afterFirst
+none-after [] r f = go (isFirst r)
   where
     go : (b : Bool) → _≡_ {A = List Record} (cond b [] []) []
     go true = refl
     go false = refl
-none-behind (s ∷ rs) r f = go (isFirst s) f (none-behind rs r)
+none-after (s ∷ rs) r f = go (isFirst s) f (none-after rs r)
   where
-    go : (b : Bool) → (b || hasFirst rs) ≡ false → (hasFirst rs ≡ false → behindFirst (rs ++ r ∷ []) ≡ [])
-        → cond b (rs ++ r ∷ []) (behindFirst (rs ++ r ∷ [])) ≡ []
+    go : (b : Bool) → (b || hasFirst rs) ≡ false → (hasFirst rs ≡ false → afterFirst (rs ++ r ∷ []) ≡ [])
+        → cond b (rs ++ r ∷ []) (afterFirst (rs ++ r ∷ [])) ≡ []
     go true f rest = absurd (true≢false f)
     go false f rest = rest f
 
@@ -75,14 +75,14 @@ not-above (s ∷ rs) r a = go (isAbove (s .threshold)) a (not-above rs r)
     go false a rest = rest a
 
 -- where no kept threshold of all is above the counts, none of those before the last was
-pub above-before : (rs : List Record) (r : Record) → someAbove (behindFirst (rs ++ r ∷ [])) ≡ false
-    → someAbove (behindFirst rs) ≡ false
+pub above-before : (rs : List Record) (r : Record) → someAbove (afterFirst (rs ++ r ∷ [])) ≡ false
+    → someAbove (afterFirst rs) ≡ false
 unfolding someAbove
 above-before rs r a = go (hasFirst rs) refl
   where
-    go : (b : Bool) → hasFirst rs ≡ b → someAbove (behindFirst rs) ≡ false
-    go true f = not-above (behindFirst rs) r (rw (behind-more rs r f) at a) .0
-    go false f = rw (nothing-behind rs f)
+    go : (b : Bool) → hasFirst rs ≡ b → someAbove (afterFirst rs) ≡ false
+    go true f = not-above (afterFirst rs) r (rw (after-more rs r f) at a) .0
+    go false f = rw (nothing-after rs f)
 
 module _ (rs : List Record) (r : Record) where
   abbrev now : Judged
@@ -91,16 +91,16 @@ module _ (rs : List Record) (r : Record) where
   abbrev Joined : Type 0
   Joined = keptEntries (rs ++ r ∷ []) ≡ keptEntries rs ++ entry (now .nanos) (now .offset) ∷ []
 
-  behind-first : hasFirst rs ≡ true → someAbove (behindFirst (rs ++ r ∷ [])) ≡ false → Joined
-  behind-first f a =
+  after-the-first : hasFirst rs ≡ true → someAbove (afterFirst (rs ++ r ∷ [])) ≡ false → Joined
+  after-the-first f a =
       let n : 0 < judgedAll begun rs .count = rw (counted rs, f) (omega arith) in
       rw (
         is-kept (judgedAll begun rs) r n,
-        not-above (behindFirst rs) r (rw (behind-more rs r f) at a) .1,
+        not-above (afterFirst rs) r (rw (after-more rs r f) at a) .1,
         first-more rs r,
         f,
-        behind-more rs r f,
-        map-append entryOf (behindFirst rs) (r ∷ []),
+        after-more rs r f,
+        map-append entryOf (afterFirst rs) (r ∷ []),
       )
 
   before-first : hasFirst rs ≡ false → 0 < now .count → Joined
@@ -116,15 +116,15 @@ module _ (rs : List Record) (r : Record) where
             first-more rs r,
             f,
             e,
-            none-behind rs r f,
+            none-after rs r f,
             equal-true (r .offset) (pos 19) e,
           )
       go false e = absurd (omega (arith, rw (is-dropped (judgedAll begun rs) r z, e) at n))
 
   -- a record that is counted is kept last
-  pub kept-more : someAbove (behindFirst (rs ++ r ∷ [])) ≡ false → 0 < now .count → Joined
+  pub kept-more : someAbove (afterFirst (rs ++ r ∷ [])) ≡ false → 0 < now .count → Joined
   kept-more a n = go (hasFirst rs) refl
     where
       go : (b : Bool) → hasFirst rs ≡ b → Joined
-      go true f = behind-first f a
+      go true f = after-the-first f a
       go false f = before-first f n

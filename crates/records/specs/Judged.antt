@@ -11,7 +11,7 @@ use Rattle.tables.specs.Answers.{takenIn}
 use Rattle.tables.specs.Entries.{Entry}
 use Rattle.tables.specs.Slots.{tableOf}
 use Rattle.records.specs.Records.{Record, event, isFirst, orElse, followRefusal, isAbove, nanosOf}
-use Rattle.records.specs.Records.{hasFirst, behindFirst, kept, someAbove, entryOf}
+use Rattle.records.specs.Records.{hasFirst, afterFirst, kept, someAbove, entryOf}
 use Rattle.records.specs.Seconds.{secondsIn}
 use Rattle.records.specs.declared.inner.Progress.{Progress}
 
@@ -52,7 +52,7 @@ dropped j r = record {
   nanos = 0;
 }
 
--- behind it
+-- after it
 abbrev pub keeping : Judged → Record → Judged
 keeping j r = record {
   some = true;
@@ -89,7 +89,7 @@ keptEntries rs = cond (hasFirst rs) (map entryOf (kept rs)) []
 -- what has been seen is told by `p`, and the arrays hold the kept entries, where these are counts and there is room
 pub record Holds (rs : List Record) (ts : List ℕ) (ns : List ℤ) (p : Progress) : Type 0 where
   pub seen : judgedIn p ≡ judgedAll begun rs
-  pub thresholds : someAbove (behindFirst rs) ≡ false → length (keptEntries rs) ≤ 64
+  pub thresholds : someAbove (afterFirst rs) ≡ false → length (keptEntries rs) ≤ 64
       → ts ≡ tableOf (keptEntries rs) .thresholds
-  pub offsets : someAbove (behindFirst rs) ≡ false → length (keptEntries rs) ≤ 64
+  pub offsets : someAbove (afterFirst rs) ≡ false → length (keptEntries rs) ≤ 64
       → ns ≡ tableOf (keptEntries rs) .offsets

@@ -38,14 +38,14 @@ unfoldable pub upToFirst : List Record → List Record
 upToFirst [] = []
 upToFirst (r ∷ rs) = r ∷ cond (isFirst r) [] (upToFirst rs)
 
--- the records behind it
-unfoldable pub behindFirst : List Record → List Record
-behindFirst [] = []
-behindFirst (r ∷ rs) = cond (isFirst r) rs (behindFirst rs)
+-- the records after it
+unfoldable pub afterFirst : List Record → List Record
+afterFirst [] = []
+afterFirst (r ∷ rs) = cond (isFirst r) rs (afterFirst rs)
 
--- the kept records: that one is in force from TAI second 0 on, and those behind it are kept as they are
+-- the kept records: that one is in force from TAI second 0 on, and those after it are kept as they are
 abbrev pub kept : List Record → List Record
-kept rs = recordOf (pos 0) (pos 19) ∷ behindFirst rs
+kept rs = recordOf (pos 0) (pos 19) ∷ afterFirst rs
 
 -- ---- why they make no table
 -- the first of two numbers that is not 0
@@ -81,7 +81,7 @@ abbrev pub recordsRefusal : ℕ → List Record → ℕ
 recordsRefusal none rs =
     cond (eqb (length rs) 0) 6
     (cond (hasFirst rs)
-    (orElse (cond (someAbove (behindFirst rs)) 1 0) (orElse (cond (ltb 64 (length (kept rs))) 5 0) (fileOrder rs)))
+    (orElse (cond (someAbove (afterFirst rs)) 1 0) (orElse (cond (ltb 64 (length (kept rs))) 5 0) (fileOrder rs)))
     none)
 
 -- ---- the table

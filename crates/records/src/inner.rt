@@ -154,7 +154,7 @@ fn drop_one(seen: Progress, given: LeapRecord) -> Progress
     }
 }
 
-// A record behind the first with offset 19.
+// A record after the first with offset 19.
 fn keep_one(seen: Progress, given: LeapRecord) -> Progress
     requires { ⌜ seen .count < 2 ^ 32 ⌝ }
     ensures { λ r. ⌜ judgedIn r ≡ keeping (judgedIn seen) (recordIn given) ⌝ }

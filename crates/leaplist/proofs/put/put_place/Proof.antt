@@ -43,7 +43,7 @@ put-quoted-requires c κs =
     let count = c .before .before .before .before in
     (quoted-few c, omega (arith, decimal-length (begin count .args .line), count .put-count .ensures .0))
 
--- and there is room for the line end behind it
+-- and there is room for the line end after it
 room : (c : call.Tie.After-put-quoted) → c .put-quoted .result < length (c .put-quoted .last .0)
 room c =
     let start = c .before in

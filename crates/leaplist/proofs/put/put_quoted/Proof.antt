@@ -1,4 +1,4 @@
--- `put_quoted`: the mark in front, the bytes and the mark behind, each from where the part before ends.
+-- `put_quoted`: a mark, the bytes and a mark, each from where the part before ends.
 use mathlib.Core.Path.{_≡_, refl, sym, _∙_}
 use mathlib.Core.Bool.{true, false}
 use mathlib.Core.List.{[], _∷_, _++_}

@@ -1,4 +1,4 @@
--- `read_data`: the number, then the offset in the text behind it, then the end of the line from where the offset ends.
+-- `read_data`: the number, then the offset in the text after it, then the end of the line from where the offset ends.
 use mathlib.Core.Path.{_≡_, sym, ap, subst, _∙_}
 use mathlib.Core.List.{List}
 use Prim.Native.Nat.{ℕ, _+_, _-_}
@@ -10,7 +10,7 @@ use lib.Seq.{take-all, drop-drop}
 use Rattle.refusals.specs.Outcome.{answered, refused}
 use Rattle.words.specs.Decimal.{isDigit, countRead}
 use Rattle.texts.specs.Ends.{untilEnd, NoEndBetween}
-use Rattle.published.specs.LeapSecondsList.{holds, front, endsInReturn, offsetRead}
+use Rattle.published.specs.LeapSecondsList.{holds, takeWhile, endsInReturn, offsetRead}
 use Rattle.published.specs.Places.{firstLine, in64Bits, numberFound, NumberEnds, offsetFound, OffsetEnds}
 use Rattle.published.specs.declared.inner.NumberRead.the-variants as number
 use Rattle.published.specs.declared.inner.OffsetRead.the-variants as offset
@@ -34,7 +34,7 @@ module _ (c : call.Tie.After-ntp) where
   abbrev place : ℕ
   place = c .ntp .given .0 .1 .0
 
-  ntp-is : answered ntp ≡ in64Bits (countRead (front isDigit (drop at s)))
+  ntp-is : answered ntp ≡ in64Bits (countRead (takeWhile isDigit (drop at s)))
   ntp-is = sym (ap numberFound (c .ntp .given .1)) ∙ c .before .before .read-number .ensures .0
 
   ntp-ends : NumberEnds s at (number.Number ntp place)
@@ -55,7 +55,7 @@ sub-read-offset c = ntp-ends (c .before) .0 .1 .1
 part-read-offset-start : call.Tie.Need-part-read-offset-start
 part-read-offset-start c = let within = ntp-ends (c .before) .0 .1 .1 in search needs
 
--- ---- the offset, in the text behind the number
+-- ---- the offset, in the text after the number
 module _ (c : call.Tie.After-ntp) where
   abbrev rest : List ℕ
   rest = drop (place c) (s c)
@@ -104,31 +104,31 @@ next-end-requires : call.Tie.Need-next-end-requires
 next-end-requires c κs = stops (c .before) .1
 
 module _ (c : call.Tie.After-next-end) where
-  abbrev behind : call.Tie.After-offset
-  behind = c .before .before
+  abbrev after : call.Tie.After-offset
+  after = c .before .before
 
-  line-ends : c .next-end .result ≡ at (from behind) + untilEnd (drop (at (from behind)) (s (from behind)))
-  line-ends = c .next-end .ensures ∙ sym (stops behind .0)
+  line-ends : c .next-end .result ≡ at (from after) + untilEnd (drop (at (from after)) (s (from after)))
+  line-ends = c .next-end .ensures ∙ sym (stops after .0)
 
-  is-line : endsInReturn (take (c .next-end .result - at (from behind)) (drop (at (from behind)) (s (from behind))))
-      ≡ endsInReturn (firstLine (drop (at (from behind)) (s (from behind))))
-  is-line = ap endsInReturn (line-to (s (from behind)) (at (from behind)) (c .next-end .result) line-ends)
+  is-line : endsInReturn (take (c .next-end .result - at (from after)) (drop (at (from after)) (s (from after))))
+      ≡ endsInReturn (firstLine (drop (at (from after)) (s (from after))))
+  is-line = ap endsInReturn (line-to (s (from after)) (at (from after)) (c .next-end .result) line-ends)
 
 ends-in-return-requires : call.Tie.Need-ends-in-return-requires
 ends-in-return-requires c κs =
-    let f = from (behind c) in
+    let f = from (after c) in
     let st = start f in (
       omega (arith, line-ends c, data-not-empty (s f) (at f) (st .pre .0) (st .pre .1)),
       omega (arith, line-ends c, end-within (s f) (at f) (omega (arith, st .pre .0))),
     )
 
 record-at-requires : call.Tie.Need-record-at-requires
-record-at-requires c κs = offset-ends (behind (c .before .before)) .1
+record-at-requires c κs = offset-ends (after (c .before .before)) .1
 
 returns-3 : call.Tie.Need-returns-3
 returns-3 c =
     let e = c .before .before in
-    let f = from (behind e) in
+    let f = from (after e) in
     let st = start f in (
       data-returns (s f) (at f) (st .pre .0) (st .pre .1) (sym (is-line e) ∙ sym (c .before .ends-in-return .ensures) ∙ c .if1 .taken),
       tt,
@@ -137,7 +137,7 @@ returns-3 c =
 returns-4 : call.Tie.Need-returns-4
 returns-4 c =
     let e = c .before .before .before in
-    let o = behind e in
+    let o = after e in
     let f = from o in
     let st = start f in
     let no-return = sym (is-line e) ∙ sym (c .before .before .ends-in-return .ensures) ∙ c .before .if1 .left in (

@@ -11,7 +11,7 @@ use lib.ListN.{length, getD}
 use Rattle.published.specs.Places.{ReadTo}
 use Rattle.published.proofs.Digits.{all-read, number-ends, too-long, too-large, one-read}
 use Rattle.published.proofs.Digits.{from-zero}
-use Rattle.published.proofs.Parts.{front-here, front-none, stops-here, stops-at-end}
+use Rattle.published.proofs.Parts.{take-here, take-none, stops-here, stops-at-end}
 use Rattle.published.proofs.inner.read_last_digit as call
 
 abbrev Inv-loop : call.Tie.InvT-loop
@@ -37,7 +37,7 @@ returns c =
     let a = at .before .before .args in
     let other = sym (c .before .before .is-digit .ensures) ∙ not-true _ (c .before .if1 .taken) in
     rw (c .number-to .ensures) (
-      all-read (at .loop .inv) (front-here isDigit (now (a .s)) (at .loop .k) (omega arith) other),
+      all-read (at .loop .inv) (take-here isDigit (now (a .s)) (at .loop .k) (omega arith) other),
       number-ends (at .loop .inv)
           (stops-here isDigit refl (now (a .s)) (a .at) (at .loop .k) (at .loop .inv .passing) (omega arith) other),
     )
@@ -72,7 +72,7 @@ returns-5 c =
     let at = c .before .before in
     let a = at .before .before .args in
     rw (c .number-to2 .ensures) (
-      all-read (at .loop .inv) (front-none isDigit (now (a .s)) (at .loop .k) (omega arith)),
+      all-read (at .loop .inv) (take-none isDigit (now (a .s)) (at .loop .k) (omega arith)),
       number-ends (at .loop .inv)
           (stops-at-end isDigit refl (now (a .s)) (a .at) (at .loop .k) (at .loop .inv .passing) (omega arith)),
     )

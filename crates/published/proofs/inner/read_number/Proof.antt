@@ -15,7 +15,7 @@ use Rattle.words.specs.Decimal.{isDigit}
 use Rattle.words.proofs.WayBack.{digit-bounds}
 use Rattle.published.specs.Places.{ReadTo}
 use Rattle.published.proofs.Digits.{none-read, all-read, number-ends, one-read, from-zero}
-use Rattle.published.proofs.Parts.{front-here, stops-here}
+use Rattle.published.proofs.Parts.{take-here, stops-here}
 use Rattle.published.proofs.inner.read_number as call
 
 record Inv (s : List ℕ) (at value i : ℕ) : Type 0 where
@@ -79,7 +79,7 @@ returns c =
     let d = c .before .before in
     let other = sym (d .is-digit .ensures) ∙ not-true _ (c .before .if1 .taken) in
     rw (c .number-to .ensures) (
-      all-read (inv d .read) (front-here isDigit (s d) (i d) (inside d) other),
+      all-read (inv d .read) (take-here isDigit (s d) (i d) (inside d) other),
       number-ends (inv d .read) (stops-here isDigit refl (s d) (at d) (i d) (inv d .read .passing) (inside d) other),
     )
 

@@ -1,4 +1,4 @@
--- `read_offset`: what it finds in the text is what stands in the line.
+-- `read_offset`: what it finds in the text is what is in the line.
 use mathlib.Core.Path.{_≡_, sym, ap, subst, _∙_}
 use mathlib.Core.List.{List}
 use Prim.Native.Nat.{ℕ, _<_, _^_}
@@ -11,7 +11,7 @@ use lib.ListN.{drop}
 use Rattle.refusals.specs.Outcome.{answered, refused}
 use Rattle.texts.specs.Ends.{NoEndBetween}
 use Rattle.words.specs.Decimal.{isDigit, countRead}
-use Rattle.published.specs.LeapSecondsList.{front, isBlank, begins, offsetRead}
+use Rattle.published.specs.LeapSecondsList.{takeWhile, isBlank, begins, offsetRead}
 use Rattle.published.specs.Places.{firstLine, in64Bits, numberFound, NumberEnds}
 use Rattle.published.specs.declared.inner.NumberRead.the-variants as read
 use Rattle.published.proofs.InLine.{endsData}
@@ -35,7 +35,7 @@ abbrev text : call.Tie.After-skip-blanks → List ℕ
 text c = now (c .before .before .before .before .before .before .args .rest)
 
 number-is : (c : call.Tie.After-offset)
-    → answered (number c) ≡ in64Bits (countRead (front isDigit (drop (c .before .before .before .skip-blanks .result) (text (c .before .before .before)))))
+    → answered (number c) ≡ in64Bits (countRead (takeWhile isDigit (drop (c .before .before .before .skip-blanks .result) (text (c .before .before .before)))))
 number-is c = sym (ap numberFound (c .offset .given .1)) ∙ c .before .before .read-number .ensures .0
 
 number-ends : (c : call.Tie.After-offset)
@@ -75,7 +75,7 @@ returns-4 c =
 skip-blanks-requires-2 : call.Tie.Need-skip-blanks-requires-2
 skip-blanks-requires-2 c κs = number-ends (c .before .before) .0 .1 .1
 
--- ---- behind the second blanks
+-- ---- after the second blanks
 module _ (c : call.Tie.After-skip-blanks2) where
   abbrev found : call.Tie.After-offset
   found = c .before .before .before
