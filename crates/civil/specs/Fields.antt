@@ -22,10 +22,13 @@ dateIn c = calendar.on (c .year) (c .month) (c .day)
 abbrev pub fieldsOn : calendar.Date → ℕ → ℕ → CivilDateTime
 fieldsOn d s n = fields (d .year) (d .month) (d .day) (s % units.daySeconds / 3600) (s % 3600 / 60) (s % 60) n
 
+-- the fields of the UTC second s, counted from 1972-01-01, and of n nanoseconds after it
+abbrev pub fieldsAt : ℕ → ℕ → CivilDateTime
+fieldsAt s n = fieldsOn (calendar.dateOf (pos (s / units.daySeconds + utcEpochDay))) s n
+
 -- the fields of a count
 abbrev pub fieldsOf : ℕ → CivilDateTime
-fieldsOf n =
-    fieldsOn (calendar.dateOf (pos (n / units.second / units.daySeconds + utcEpochDay))) (n / units.second) (n % units.second)
+fieldsOf n = fieldsAt (n / units.second) (n % units.second)
 
 -- the nanoseconds of the time of day, whatever its fields
 abbrev pub timeOf : CivilDateTime → ℕ

@@ -1,5 +1,7 @@
 // Civil dates and times of day in UTC, and their counts: civil.rs. No field is checked on the way to a count; a real
 // date follows the calendar, any other the formula, and a time of day only its sum.
+pub mod inner;
+
 ghost use mathlib.Core.Path.{_≡_};
 ghost use lib.IntN.{pos, _-ℤ_};
 ghost use lib.Dec.{eqb};
@@ -12,15 +14,13 @@ use calendar::engine;
 use counts::CountAnswer;
 use counts::sums;
 use counts::units::NANOS_PER_SECOND;
+use inner::SECONDS_PER_DAY;
+use inner::SECONDS_PER_HOUR;
+use inner::SECONDS_PER_MINUTE;
+use inner::fields_at;
 use refusals::Refusal;
 use scales::utc::Utc;
 use scales::utc::UtcAnswer;
-
-const SECONDS_PER_DAY: u64 = 86_400;
-
-const SECONDS_PER_HOUR: u64 = 3_600;
-
-const SECONDS_PER_MINUTE: u64 = 60;
 
 const NANOS_PER_DAY: u64 = SECONDS_PER_DAY * NANOS_PER_SECOND;
 
@@ -60,17 +60,7 @@ impl CivilDateTime {
     pub fn from_utc_nanos(count: u64) -> CivilDateTime
         ensures { λ r. ⌜ r ≡ fieldsOf count ⌝ }
     {
-        let seconds = count / NANOS_PER_SECOND;
-        let date = engine::date_of_utc_day((seconds / SECONDS_PER_DAY) as u32);
-        CivilDateTime {
-            year: date.year,
-            month: date.month,
-            day: date.day,
-            hour: (seconds % SECONDS_PER_DAY / SECONDS_PER_HOUR) as u8,
-            minute: (seconds % SECONDS_PER_HOUR / SECONDS_PER_MINUTE) as u8,
-            second: (seconds % SECONDS_PER_MINUTE) as u8,
-            nanos: (count % NANOS_PER_SECOND) as u32,
-        }
+        fields_at(count / NANOS_PER_SECOND, (count % NANOS_PER_SECOND) as u32)
     }
 
     // The nanoseconds of the time of day.
