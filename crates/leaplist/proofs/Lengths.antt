@@ -38,9 +38,8 @@ one-line-more (f ∷ es) e =
     ap (λ (l : List ℕ). entryLine f ++ l) (one-line-more es e)
     ∙ sym (append-assoc (entryLine f) (entryLines es) (entryLine e))
 
-pub table-short : (es : List Entry) (records : ℕ) → length es ≤ 64 → length (tableReport es records) ≤ 4701
-table-short es records few =
-    let n = records - length es in
+pub table-short : (es : List Entry) (n : ℕ) → length es ≤ 64 → length (tableReport es n) ≤ 4701
+table-short es n few =
     omega (arith, length-append (entryLines es) (droppedWord ++ numberAnd n 10), lines-short es, number-short n 10)
 
 -- ---- of a refused one

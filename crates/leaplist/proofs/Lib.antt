@@ -1,5 +1,5 @@
 pub mod OneAfterOther
 pub mod LineStarts
 pub mod Lengths
-pub mod Accepted
+pub mod Reports
 pub mod Calls

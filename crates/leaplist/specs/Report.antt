@@ -3,20 +3,17 @@ use mathlib.Core.Bool.{Bool, true, cond, _&&_, _||_}
 use mathlib.Core.List.{List, [], _∷_, _++_}
 use Prim.Native.Nat.{ℕ, _+_, _-_, _/_}
 use lib.Dec.{eqb, leb}
-use lib.IntN.{pos, natAbs}
-use lib.ListN.{length, take, getD}
-use Rattle.counts.specs.Units.{second, daySeconds}
-use Rattle.calendar.specs.Calendar.{dateOf}
-use Rattle.calendar.specs.Dates.{utcEpochDay}
-use Rattle.civil.specs.Fields.{fieldsOn}
-use Rattle.civil.specs.declared.CivilDateTime.{CivilDateTime}
+use lib.IntN.{natAbs}
+use lib.ListN.{take, getD}
+use Rattle.counts.specs.Units.{second}
+use Rattle.civil.specs.Fields.{fieldsAt}
 use Rattle.words.specs.Decimal.{decimal}
 use Rattle.texts.specs.Lines.{linesOf}
 use Rattle.tables.specs.Entries.{Entry, threshold, offset}
 use Rattle.tables.specs.Slots.{entriesOf}
 use Rattle.stamps.specs.Form.{written}
 use Rattle.lines.specs.OutcomeLine.{refusedWord}
-use Rattle.published.specs.LeapSecondsList.{Reading, recordsIn, listRead}
+use Rattle.published.specs.LeapSecondsList.{Reading, listRead}
 
 -- a number in decimal, and the byte after it
 abbrev pub numberAnd : ℕ → ℕ → List ℕ
@@ -27,14 +24,10 @@ numberAnd n mark = decimal n ++ (mark ∷ [])
 abbrev pub utcSecond : ℕ → ℕ → ℕ
 utcSecond t n = t / second + 252_892_800 - n
 
--- the fields of a UTC second
-abbrev pub fieldsAt : ℕ → CivilDateTime
-fieldsAt u = fieldsOn (dateOf (pos (u / daySeconds + utcEpochDay))) u 0
-
 -- the date and time, the offset without a sign, and the threshold
 unfoldable pub entryLine : Entry → List ℕ
 entryLine e =
-    written (fieldsAt (utcSecond (threshold e) (natAbs (offset e))))
+    written (fieldsAt (utcSecond (threshold e) (natAbs (offset e))) 0)
     ++ (32 ∷ (numberAnd (natAbs (offset e)) 32 ++ numberAnd (threshold e) 10))
 
 unfoldable pub entryLines : List Entry → List ℕ
@@ -45,9 +38,9 @@ entryLines (e ∷ es) = entryLine e ++ entryLines es
 abbrev pub droppedWord : List ℕ
 droppedWord = 100 ∷ 114 ∷ 111 ∷ 112 ∷ 112 ∷ 101 ∷ 100 ∷ 32 ∷ []
 
--- the entries, and how many of the file's records were dropped before the first of them
+-- the entries, and how many data lines were dropped before the first of them
 abbrev pub tableReport : List Entry → ℕ → List ℕ
-tableReport es records = entryLines es ++ (droppedWord ++ numberAnd (records - length es) 10)
+tableReport es dropped = entryLines es ++ (droppedWord ++ numberAnd dropped 10)
 
 -- ---- a file that is refused
 -- a tab, or a byte from the space to `~`
@@ -80,7 +73,7 @@ refusalReport number k bs = refusedWord ++ (decimal number ++ place k bs)
 -- ---- any file
 abbrev pub reportOf : List ℕ → Reading → List ℕ
 reportOf bs r =
-    cond (eqb (r .number) 0) (tableReport (entriesOf (r .table)) (length (recordsIn (linesOf bs))))
+    cond (eqb (r .number) 0) (tableReport (entriesOf (r .table)) (r .dropped))
     (refusalReport (r .number) (r .line) bs)
 
 unfoldable pub report : List ℕ → List ℕ

@@ -1,19 +1,17 @@
 // Reads a leap-seconds.list and writes the table that it makes: a line for each entry, and how many of the file's data
 // lines were dropped. Where it makes none, one line says why.
-mod put;
-mod quote;
+mod inner;
 
 ghost use Rattle.lines.specs.OutcomeLine.{PutsWithRoom};
 ghost use Rattle.leaplist.specs.Report.{report};
+use inner::put::put_refusal;
+use inner::put::put_table;
 use lines::inner::streams::Input;
 use lines::inner::streams::Progress;
 use lines::inner::streams::explain;
 use lines::inner::streams::read_whole;
 use lines::inner::streams::write_out;
 use published::MOST_BYTES;
-use published::inner::data_lines;
-use put::put_refusal;
-use put::put_table;
 use tables::Taken;
 
 // The longest report: 64 lines of at most 73 bytes, and one of at most 29.
@@ -31,7 +29,7 @@ pub fn report(bytes: &[u8], out: &mut [u8]) -> usize
     let answer = read.answer;
     let table = read.table;
     match answer {
-        Taken::Done => put_table(table, data_lines(bytes), out),
+        Taken::Done => put_table(table, read.dropped, out),
         Taken::Refused(refusal) => put_refusal(refusal, read.line, bytes, out),
     }
 }

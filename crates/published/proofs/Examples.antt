@@ -6,7 +6,7 @@ use lib.IntN.{pos}
 use Rattle.tables.specs.Entries.{entry}
 use Rattle.tables.specs.Slots.{tableOf}
 use Rattle.records.specs.Records.{hasFirst, upToFirst, afterFirst, orderRefusal, someAbove}
-use Rattle.published.specs.LeapSecondsList.{takeWhile, dropWhile, endsInReturn, firstMalformed, recordsIn, Reading, reading, listRead}
+use Rattle.published.specs.LeapSecondsList.{takeWhile, dropWhile, endsInReturn, firstMalformed, recordsIn, Reading, reading, badList, listRead}
 
 abbrev pub files : List (List ℕ)
 files =
@@ -50,24 +50,24 @@ files =
 
 abbrev pub readings : List Reading
 readings =
-    reading 0 0 (tableOf (entry 0 (pos 19) ∷ entry 46828820000000000 (pos 20) ∷ [])) ∷
-    reading 0 0 (tableOf (entry 0 (pos 19) ∷ [])) ∷
-    reading 0 0 (tableOf (entry 0 (pos 19) ∷ [])) ∷
-    reading 6 0 (tableOf []) ∷
-    reading 12 0 (tableOf []) ∷
-    reading 12 2 (tableOf []) ∷
-    reading 12 1 (tableOf []) ∷
-    reading 12 1 (tableOf []) ∷
-    reading 12 1 (tableOf []) ∷
-    reading 12 1 (tableOf []) ∷
-    reading 3 0 (tableOf []) ∷
-    reading 4 0 (tableOf []) ∷
-    reading 7 0 (tableOf []) ∷
-    reading 3 0 (tableOf []) ∷
-    reading 0 0 (tableOf (entry 0 (pos 19) ∷ entry 1000000000 (pos 20) ∷ [])) ∷
-    reading 0 0 (tableOf (entry 0 (pos 19) ∷ entry 18446744073000000000 (pos 20) ∷ [])) ∷
-    reading 1 0 (tableOf []) ∷
-    reading 1 0 (tableOf []) ∷
+    reading 0 0 0 (tableOf (entry 0 (pos 19) ∷ entry 46828820000000000 (pos 20) ∷ [])) ∷
+    reading 0 0 0 (tableOf (entry 0 (pos 19) ∷ [])) ∷
+    reading 0 0 1 (tableOf (entry 0 (pos 19) ∷ [])) ∷
+    reading 6 0 0 (tableOf []) ∷
+    badList 0 ∷
+    badList 2 ∷
+    badList 1 ∷
+    badList 1 ∷
+    badList 1 ∷
+    badList 1 ∷
+    reading 3 0 0 (tableOf []) ∷
+    reading 4 0 0 (tableOf []) ∷
+    reading 7 0 0 (tableOf []) ∷
+    reading 3 0 0 (tableOf []) ∷
+    reading 0 0 0 (tableOf (entry 0 (pos 19) ∷ entry 1000000000 (pos 20) ∷ [])) ∷
+    reading 0 0 0 (tableOf (entry 0 (pos 19) ∷ entry 18446744073000000000 (pos 20) ∷ [])) ∷
+    reading 1 0 0 (tableOf []) ∷
+    reading 1 0 0 (tableOf []) ∷
     []
 
 pub every-example : map listRead files ≡ readings

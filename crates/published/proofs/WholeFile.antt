@@ -11,10 +11,9 @@ use lib.ListN.{length, drop}
 use Rattle.texts.specs.Lines.{linesOf}
 use Rattle.texts.specs.Ends.{untilEnd}
 use Rattle.texts.proofs.FirstLine.{line-at, lines-past}
-use Rattle.tables.specs.Slots.{tableOf}
 use Rattle.records.specs.Records.{Record, tableFrom}
 use Rattle.published.specs.LeapSecondsList.{passes, holds, malformed, lineRead, numberIf, firstMalformed, withRecord, recordsIn}
-use Rattle.published.specs.LeapSecondsList.{reading, ofRecords, ofLines}
+use Rattle.published.specs.LeapSecondsList.{badList, ofRecords, ofLines}
 use Rattle.published.specs.Places.{firstLine}
 use Rattle.published.proofs.LineKinds.{end-within}
 
@@ -32,15 +31,15 @@ nothing-read s = record { numbers = refl; records = refl; some = omega arith; fe
 module _ {s : List ℕ} {past : List Record} {line at : ℕ} (r : ReadTo s past line at) where
   -- no line is left
   module _ (h : length s ≤ at) where
-    pub none-malformed : firstMalformed 1 (linesOf s) ≡ 0
+    none-malformed : firstMalformed 1 (linesOf s) ≡ 0
     unfolding firstMalformed
     none-malformed = r .numbers ∙ ap (firstMalformed line) (lines-past s at h)
 
-    pub all-records : recordsIn (linesOf s) ≡ past
+    all-records : recordsIn (linesOf s) ≡ past
     unfolding recordsIn
     all-records = r .records ∙ ap (λ ls. past ++ recordsIn ls) (lines-past s at h) ∙ append-nil past
 
-    pub all-read : ofRecords (tableFrom 12 past) ≡ ofLines (linesOf s)
+    pub all-read : ofRecords (length past) (tableFrom 12 past) ≡ ofLines (linesOf s)
     all-read = rw (none-malformed, all-records)
 
   module _ (inside : at < length s) where
@@ -58,10 +57,10 @@ module _ {s : List ℕ} {past : List Record} {line at : ℕ} (r : ReadTo s past 
     unfolding recordsIn
     records-on = r .records ∙ ap (λ ls. past ++ recordsIn ls) (line-at s at inside)
 
-    pub is-malformed : malformed ≡ lineRead this → firstMalformed 1 (linesOf s) ≡ line
+    is-malformed : malformed ≡ lineRead this → firstMalformed 1 (linesOf s) ≡ line
     is-malformed e = numbers-on ∙ rw (← e)
 
-    pub refused-there : malformed ≡ lineRead this → reading 12 line (tableOf []) ≡ ofLines (linesOf s)
+    pub refused-there : malformed ≡ lineRead this → badList line ≡ ofLines (linesOf s)
     refused-there e = rw (is-malformed e, ne-eqb line 0 (λ z. omega (arith, z, r .some)))
 
     pub line-passes : passes ≡ lineRead this → ReadTo s past (line + 1) (end + 1)

@@ -1,7 +1,7 @@
 -- The published leap-seconds.list: what a line of it is, and the table that the whole makes.
 use mathlib.Core.Bool.{Bool, true, false, cond, _&&_, _||_}
 use mathlib.Core.List.{List, [], _∷_}
-use Prim.Native.Nat.{ℕ, suc, _+_, _^_}
+use Prim.Native.Nat.{ℕ, suc, _+_, _-_, _^_}
 use lib.Dec.{eqb, ltb}
 use lib.ListN.{length}
 use lib.IntN.{pos, subℕ}
@@ -97,25 +97,31 @@ unfoldable pub recordsIn : List (List ℕ) → List Record
 recordsIn [] = []
 recordsIn (l ∷ ls) = withRecord (lineRead l) (recordsIn ls)
 
--- what the reader answers: a number, 0 with a table; the number of a malformed line, or 0; the table, or the one with no
--- entry
+-- what the reader answers: a number, 0 with a table; the number of a malformed line, or 0; how many records are dropped;
+-- the table, or the one with no entry
 pub record Reading : Type 0 where
   pub number : ℕ
   pub line : ℕ
+  pub dropped : ℕ
   pub table : LeapTable
 
-abbrev pub reading : ℕ → ℕ → LeapTable → Reading
-reading k n t = record { number = k; line = n; table = t }
+abbrev pub reading : ℕ → ℕ → ℕ → LeapTable → Reading
+reading k l d t = record { number = k; line = l; dropped = d; table = t }
 
-abbrev pub ofRecords : ℕ × LeapTable → Reading
-ofRecords x = reading (x .0) 0 (x .1)
+-- a refusal of the form at a line, or at none
+abbrev pub badList : ℕ → Reading
+badList l = reading 12 l 0 (tableOf [])
+
+-- what n records make: those that are no entry are dropped
+abbrev pub ofRecords : ℕ → ℕ × LeapTable → Reading
+ofRecords n x = reading (x .0) 0 (cond (eqb (x .0) 0) (n - x .1 .len) 0) (x .1)
 
 -- 12 with the first malformed line, 12 where no record has offset 19, then as the records
 abbrev pub ofLines : List (List ℕ) → Reading
 ofLines ls =
-    cond (eqb (firstMalformed 1 ls) 0) (ofRecords (tableFrom 12 (recordsIn ls)))
-    (reading 12 (firstMalformed 1 ls) (tableOf []))
+    cond (eqb (firstMalformed 1 ls) 0) (ofRecords (length (recordsIn ls)) (tableFrom 12 (recordsIn ls)))
+    (badList (firstMalformed 1 ls))
 
 -- a file of at most 65,536 bytes
 abbrev pub listRead : List ℕ → Reading
-listRead bs = cond (ltb 65_536 (length bs)) (reading 12 0 (tableOf [])) (ofLines (linesOf bs))
+listRead bs = cond (ltb 65_536 (length bs)) (badList 0) (ofLines (linesOf bs))

@@ -81,4 +81,4 @@ LineEnds s at (line.Holds r end) = (end ≡ at + untilEnd (drop at s)) × (natAb
 LineEnds s at line.Malformed = Unit {0}
 
 abbrev pub readingIn : ListAnswer → Reading
-readingIn x = reading (takenIn (x .answer)) (x .line) (x .table)
+readingIn x = reading (takenIn (x .answer)) (x .line) (x .dropped) (x .table)

@@ -2,7 +2,6 @@
 // only the last byte of a line is looked at again, where it may be a carriage return.
 ghost use mathlib.Core.Path.{_≡_};
 ghost use mathlib.Core.Bool.{true, false, cond};
-ghost use mathlib.Core.List.{[]};
 ghost use Prim.Native.Nat.{_-_, _≤_, _<_, _^_, min};
 ghost use lib.Dec.{eqb};
 ghost use lib.IntN.{natAbs};
@@ -10,11 +9,11 @@ ghost use lib.ListN.{length, getD, take, drop};
 ghost use Rattle.words.specs.Decimal.{isDigit, countRead};
 ghost use Rattle.texts.specs.Lines.{linesOf};
 ghost use Rattle.texts.specs.Ends.{untilEnd};
-ghost use Rattle.tables.specs.Slots.{tableOf};
+ghost use Rattle.tables.specs.Answers.{tableAnswerIn};
 ghost use Rattle.records.specs.Records.{event};
 ghost use Rattle.records.specs.Seconds.{recordIn};
 ghost use Rattle.published.specs.LeapSecondsList.{isBlank, endsInReturn, offsetRead, recordAt, lineRead};
-ghost use Rattle.published.specs.LeapSecondsList.{reading, ofLines, firstMalformed, recordsIn};
+ghost use Rattle.published.specs.LeapSecondsList.{badList, ofRecords, ofLines};
 ghost use Rattle.published.specs.Places.{firstLine, Passed, digits, ReadTo, numberFound, NumberEnds, offsetFound, OffsetEnds};
 ghost use Rattle.published.specs.Places.{lineFound, LineEnds, readingIn, in64Bits};
 use crate::ListAnswer;
@@ -23,6 +22,7 @@ use records::inner::LeapRecord;
 use records::inner::seconds::difference;
 use refusals::Refusal;
 use tables::LeapTable;
+use tables::TableAnswer;
 use tables::Taken;
 use texts::inner::LINE_END;
 use texts::inner::next_end;
@@ -279,13 +279,44 @@ pub fn read_line(s: &[u8], at: usize) -> LineRead
 
 // A refusal of the form at a line, or at none, with the empty table.
 pub fn refused_at(line: usize) -> ListAnswer
-    ensures { λ r. ⌜ readingIn r ≡ reading 12 line (tableOf []) ⌝ }
+    ensures { λ r. ⌜ readingIn r ≡ badList line ⌝ }
 {
     let answer = Taken::Refused(Refusal::BadList);
     ListAnswer {
         answer,
         line,
+        dropped: 0,
         table: LeapTable::new(),
+    }
+}
+
+// A difference that does not go below 0.
+fn less_or_none(a: usize, b: usize) -> usize
+    ensures { λ r. ⌜ r ≡ a - b ⌝ }
+{
+    if a < b { 0 } else { a - b }
+}
+
+// What is made of a number of records: those that are no entry of the table were dropped.
+fn answer_for(records: usize, made: TableAnswer) -> ListAnswer
+    ensures { λ r. ⌜ readingIn r ≡ ofRecords records (tableAnswerIn made) ⌝ }
+{
+    let answer = made.answer;
+    let table = made.table;
+    let n = table.len;
+    match answer {
+        Taken::Done => ListAnswer {
+            answer: Taken::Done,
+            line: 0,
+            dropped: less_or_none(records, n),
+            table,
+        },
+        Taken::Refused(refusal) => ListAnswer {
+            answer: Taken::Refused(refusal),
+            line: 0,
+            dropped: 0,
+            table,
+        },
     }
 }
 
@@ -297,6 +328,7 @@ pub fn read_lines(s: &[u8]) -> ListAnswer
     let mut thresholds = [0u64; 64];
     let mut offsets = [0i32; 64];
     let mut seen = records::inner::begin();
+    let mut records: usize = 0;
     let mut line: usize = 1;
     let mut at: usize = 0;
     while at < s.len() {
@@ -308,36 +340,13 @@ pub fn read_lines(s: &[u8]) -> ListAnswer
             LineRead::Passes(end) => at = end + 1,
             LineRead::Holds(given, end) => {
                 seen = records::inner::take(&mut thresholds, &mut offsets, seen, given);
+                records += 1;
                 at = end + 1;
             }
         }
     }
-    let made = records::inner::finish(thresholds, offsets, seen, Refusal::BadList);
-    let answer = made.answer;
-    let table = made.table;
-    ListAnswer {
-        answer,
-        line: 0,
-        table,
-    }
-}
-
-// How many lines hold a record, up to the first malformed one.
-pub fn data_lines(s: &[u8]) -> usize
-    requires { ⌜ length (now s) ≤ 65536 ⌝ }
-    ensures { λ r. ⌜ (firstMalformed 1 (linesOf (now (s .entry))) ≡ 0 → r ≡ length (recordsIn (linesOf (now (s .entry))))) ⌝ }
-{
-    let mut found: usize = 0;
-    let mut at: usize = 0;
-    while at < s.len() {
-        match read_line(s, at) {
-            LineRead::Malformed => return found,
-            LineRead::Passes(end) => at = end + 1,
-            LineRead::Holds(_, end) => {
-                found += 1;
-                at = end + 1;
-            }
-        }
-    }
-    found
+    answer_for(
+        records,
+        records::inner::finish(thresholds, offsets, seen, Refusal::BadList),
+    )
 }

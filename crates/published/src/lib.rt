@@ -11,11 +11,12 @@ use tables::Taken;
 // The longest file that is read.
 pub const MOST_BYTES: usize = 65_536;
 
-// Whether a table was made, or why not; the number of a malformed line, from 1, or 0; and the table, or the one with no
-// entry.
+// Whether a table was made, or why not; the number of a malformed line, from 1, or 0; how many data lines were dropped
+// before the table's first entry; and the table. On a refusal none is dropped, and the table has no entry.
 pub struct ListAnswer {
     pub answer: Taken,
     pub line: usize,
+    pub dropped: usize,
     pub table: LeapTable,
 }
 

@@ -13,7 +13,7 @@ use Rattle.tables.specs.Entries.{Entry}
 use Rattle.tables.specs.Slots.{tableOf}
 use Rattle.images.specs.Image.{imageBytes, sized, imageOf}
 use Rattle.images.proofs.Whole.{of-size, not-of-size}
-use Rattle.published.specs.LeapSecondsList.{Reading, firstMalformed, ofLines, listRead}
+use Rattle.published.specs.LeapSecondsList.{Reading, badList, firstMalformed, ofRecords, ofLines, listRead}
 use Rattle.plaitgate.specs.Tables.{ListLeft, listLeft, leftOf}
 use Rattle.plaitgate.proofs.leap_files
 
@@ -27,16 +27,16 @@ either true l m = l
 either false l m = m
 
 -- a refusal of the form, at a line or at none
-of-form : (n : ℕ) → Leaves (record { number = 12; line = n; table = tableOf [] })
+of-form : (n : ℕ) → Leaves (badList n)
 of-form n = record { empty = λ m. refl; no-line = λ m. absurd (m refl) }
 
--- the table of records, by the number that their refusal has
-of-records : (k : ℕ) (es : List Entry) → Leaves (record { number = k; line = 0; table = tableOf (cond (eqb k 0) es []) })
-of-records k es = record { empty = λ m. rw (ne-eqb k 0 m); no-line = λ m. refl }
+-- the table of n records, by the number that their refusal has
+of-records : (n k : ℕ) (es : List Entry) → Leaves (ofRecords n (k, tableOf (cond (eqb k 0) es [])))
+of-records n k es = record { empty = λ m. rw (ne-eqb k 0 m); no-line = λ m. refl }
 
 -- malformed at a line, or by its records
 lines-leave : (ls : List (List ℕ)) → Leaves (ofLines ls)
-lines-leave ls = either (eqb (firstMalformed 1 ls) 0) (of-records _ _) (of-form (firstMalformed 1 ls))
+lines-leave ls = either (eqb (firstMalformed 1 ls) 0) (of-records _ _ _) (of-form (firstMalformed 1 ls))
 
 -- too long, or by its lines
 reading-leaves : (bytes : List ℕ) → Leaves (listRead bytes)

@@ -4,7 +4,7 @@ use native.Mathlib.Omega.{arith}
 use borrow.Author.Needs.{needs}
 use denote.Ref.{now}
 use Rattle.lines.specs.Places.{Reads}
-use Rattle.leaplist.proofs.Accepted.{made-fits}
+use Rattle.leaplist.proofs.Reports.{made-fits}
 use Rattle.leaplist.proofs.run as call
 
 part-report-end : call.Tie.Need-part-report-end

@@ -6,8 +6,9 @@ use native.Mathlib.Omega.{arith}
 use borrow.Author.Needs.{needs}
 use denote.Ref.{now}
 use lib.IntN.{ℤ}
-use lib.ListN.{length, drop}
+use lib.ListN.{length, drop, length-append}
 use Rattle.texts.specs.Ends.{untilEnd}
+use Rattle.tables.specs.Answers.{tableAnswerIn}
 use Rattle.records.specs.Records.{Record}
 use Rattle.records.specs.Seconds.{recordIn}
 use Rattle.records.specs.Judged.{Holds}
@@ -20,24 +21,27 @@ use Rattle.published.proofs.LineKinds.{end-within}
 use Rattle.published.proofs.WholeFile.{ReadTo, nothing-read, all-read, refused-there, line-passes, line-holds}
 use Rattle.published.proofs.inner.read_lines as call
 
-record Inv (s : List ℕ) (thresholds : List ℕ) (offsets : List ℤ) (seen : Progress) (line at : ℕ) : Type 0 where
+record Inv (s : List ℕ) (thresholds : List ℕ) (offsets : List ℤ) (seen : Progress) (records line at : ℕ) : Type 0 where
   past : List Record
   read : ReadTo s past line at
   held : Holds past thresholds offsets seen
-  few : seen .count < line
+  counted : records ≡ length past
+  few : (seen .count < line) × (records < line)
 
 abbrev Inv-loop : call.Tie.InvT-loop
-Inv-loop s thresholds₀ offsets₀ seen₀ line₀ at₀ thresholds offsets seen line at = Inv s thresholds offsets seen line at
+Inv-loop s thresholds₀ offsets₀ seen₀ records₀ line₀ at₀ thresholds offsets seen records line at =
+    Inv s thresholds offsets seen records line at
 
 abbrev μ-loop : call.Tie.MeasureT-loop
-μ-loop s thresholds₀ offsets₀ seen₀ line₀ at₀ thresholds offsets seen line at = length s + 1 - at
+μ-loop s thresholds₀ offsets₀ seen₀ records₀ line₀ at₀ thresholds offsets seen records line at = length s + 1 - at
 
 loop-holds : call.Tie.Need-loop-holds Inv-loop μ-loop
 loop-holds c = record {
   past = [];
   read = nothing-read (now (c .before .before .args .s));
   held = holds-begin (c .begin .result) (c .begin .ensures);
-  few = omega (arith, ap (λ j. j .count) (c .begin .ensures));
+  counted = refl;
+  few = (omega (arith, ap (λ j. j .count) (c .begin .ensures)), omega arith);
 }
 
 -- ---- a turn: the line at `at` is read
@@ -57,7 +61,7 @@ module _ (c : call.Tie.After-read-line Inv-loop μ-loop) where
   short : length s ≤ 65536
   short = loop .before .before .before .pre
 
-  inv : Inv s (loop .loop .thresholds) (loop .loop .offsets) (loop .loop .seen) (loop .loop .line) at
+  inv : Inv s (loop .loop .thresholds) (loop .loop .offsets) (loop .loop .seen) (loop .loop .records) (loop .loop .line) at
   inv = loop .loop .inv
 
 add-line : call.Tie.Need-add-line Inv-loop μ-loop
@@ -95,7 +99,8 @@ loop-again c =
       past = i .past;
       read = line-passes (i .read) (inside l) passes-it;
       held = i .held;
-      few = omega (arith, i .few);
+      counted = i .counted;
+      few = (omega (arith, i .few .0), omega (arith, i .few .1));
     })
 
 module _ (c : call.Tie.After-read2 Inv-loop μ-loop) where
@@ -115,7 +120,12 @@ take-requires : call.Tie.Need-take-requires Inv-loop μ-loop
 take-requires c κs =
     let r = c .before .before .before in
     let l = of-record r in
-    (told r .1, omega (arith, inv l .few, inv l .read .few, inside l, short l))
+    (told r .1, omega (arith, inv l .few .0, inv l .read .few, inside l, short l))
+
+add-records : call.Tie.Need-add-records Inv-loop μ-loop
+add-records c =
+    let l = of-record (c .before .before .before .before) in
+    let few = inv l .few .1 in let lines = inv l .read .few in let h = inside l in let k = short l in search needs
 
 add-at-2 : call.Tie.Need-add-at-2 Inv-loop μ-loop
 add-at-2 c =
@@ -137,14 +147,18 @@ loop-again-2 c =
       past = i .past ++ (recordIn (r .read2 .given .0 .0) ∷ []);
       read = line-holds (i .read) (inside l) (recordIn (r .read2 .given .0 .0)) holds-it;
       held = c .take .ensures .1 (i .past) (i .held);
-      few = omega (arith, i .few, c .take .ensures .0);
+      counted = omega (arith, i .counted, length-append (i .past) (recordIn (r .read2 .given .0 .0) ∷ []));
+      few = (omega (arith, i .few .0, c .take .ensures .0), omega (arith, i .few .1));
     })
 
 returns-2 : call.Tie.Need-returns-2 Inv-loop μ-loop
 returns-2 c =
     let end = c .before .before in
     let i = end .before .loop .inv in
-    ap ofRecords (c .before .finish .ensures (i .past) (i .held)) ∙ all-read (i .read) (end .loop-test .left)
+    c .answer-for .ensures
+    ∙ ap (λ n. ofRecords n (tableAnswerIn (c .before .finish .result))) (i .counted)
+    ∙ ap (ofRecords (length (i .past))) (c .before .finish .ensures (i .past) (i .held))
+    ∙ all-read (i .read) (end .loop-test .left)
 
 pub read-lines-spec : {M : Type 1} → call.Statement.statement M
 read-lines-spec =
@@ -165,8 +179,10 @@ read-lines-spec =
     loop-again
     (λ c. search needs)
     take-requires
+    add-records
     add-at-2
     loop-less-2
     loop-again-2
+    (λ c κs. search needs)
     (λ c κs. search needs)
     returns-2)

@@ -1,0 +1,149 @@
+// The lines of a report, written at a place of a slice. Each function returns where its bytes end.
+ghost use mathlib.Core.Path.{_≡_};
+ghost use mathlib.Core.List.{_++_};
+ghost use Prim.Native.Nat.{_+_, _*_, _≤_, _<_};
+ghost use lib.IntN.{natAbs};
+ghost use lib.ListN.{length};
+ghost use Rattle.refusals.specs.Number.{numberOf};
+ghost use Rattle.tables.specs.Entries.{entry};
+ghost use Rattle.tables.specs.Slots.{slots, entriesOf};
+ghost use Rattle.lines.specs.OutcomeLine.{Puts};
+ghost use Rattle.leaplist.specs.Report.{numberAnd, utcSecond, entryLine, entryLines};
+ghost use Rattle.leaplist.specs.Report.{droppedWord, tableReport, quoted, place, refusalReport};
+ghost use Rattle.leaplist.specs.Writing.{PutsAt};
+use crate::inner::quote::is_text;
+use crate::inner::quote::start_of_line;
+use civil::inner::SECONDS_PER_DAY;
+use civil::inner::fields_at;
+use counts::units::NANOS_PER_SECOND;
+use lines::inner::put::put_bytes;
+use refusals::Refusal;
+use tables::LeapTable;
+use texts::inner::LINE_END;
+use words::inner::digits::put_count;
+
+// From 1972-01-01 to 1980-01-06: 2,927 days.
+const UTC_EPOCH_TO_1980_S: u64 = 2_927 * SECONDS_PER_DAY;
+
+// A number in decimal, and the byte after it.
+fn put_number_and(out: &mut [u8], at: usize, n: u64, mark: u8) -> usize
+    requires { ⌜ at + 21 ≤ length (now out) ⌝ }
+    ensures { λ r. ⌜ PutsAt at (numberAnd n mark) (now (out .entry)) (now (out .exit)) r ⌝ }
+{
+    let end = put_count(out, at, n);
+    out[end] = mark;
+    end + 1
+}
+
+// An offset without its sign.
+fn size_of(offset: i32) -> u64
+    ensures { λ r. ⌜ r ≡ natAbs offset ⌝ }
+{
+    if offset < 0 {
+        !offset as u64 + 1
+    } else {
+        offset as u64
+    }
+}
+
+// The UTC second, counted from 1972-01-01, at a TAI count by an offset; 0 where the offset is larger.
+fn utc_second(threshold: u64, offset: u64) -> u64
+    ensures { λ r. ⌜ r ≡ utcSecond threshold offset ⌝ }
+{
+    let second = threshold / NANOS_PER_SECOND + UTC_EPOCH_TO_1980_S;
+    if second < offset { 0 } else { second - offset }
+}
+
+// The line of an entry: at most 30 bytes for the date and time, 21 and 21 for the numbers, and a space.
+fn put_entry(out: &mut [u8], at: usize, threshold: u64, offset: i32) -> usize
+    requires { ⌜ at + 73 ≤ length (now out) ⌝ }
+    ensures { λ r. ⌜ PutsAt at (entryLine (entry threshold offset)) (now (out .entry)) (now (out .exit)) r ⌝ }
+{
+    let size = size_of(offset);
+    stamps::inner::put(out, at, fields_at(utc_second(threshold, size), 0));
+    out[at + 30] = b' ';
+    let end = put_number_and(out, at + 31, size, b' ');
+    put_number_and(out, end, threshold, LINE_END)
+}
+
+// The lines of the first `n` slots.
+fn put_entries(thresholds: &[u64], offsets: &[i32], n: usize, out: &mut [u8]) -> usize
+    requires { ⌜ n ≤ length (now thresholds) ⌝ }
+    requires { ⌜ n ≤ length (now offsets) ⌝ }
+    requires { ⌜ 73 * n ≤ length (now out) ⌝ }
+    ensures { λ r. ⌜ PutsAt 0 (entryLines (slots (now (thresholds .entry)) (now (offsets .entry)) n))
+        (now (out .entry)) (now (out .exit)) r ⌝ }
+{
+    let mut end: usize = 0;
+    let mut i: usize = 0;
+    while i < n {
+        end = put_entry(out, end, thresholds[i], offsets[i]);
+        i += 1;
+    }
+    end
+}
+
+// How many data lines were dropped.
+fn put_dropped(out: &mut [u8], at: usize, n: u64) -> usize
+    requires { ⌜ at + 29 ≤ length (now out) ⌝ }
+    ensures { λ r. ⌜ PutsAt at (droppedWord ++ numberAnd n 10) (now (out .entry)) (now (out .exit)) r ⌝ }
+{
+    put_bytes(out, at, b"dropped ");
+    put_number_and(out, at + 8, n, LINE_END)
+}
+
+// The table of a file, and how many data lines were dropped.
+pub fn put_table(table: LeapTable, dropped: usize, out: &mut [u8]) -> usize
+    requires { ⌜ table .len ≤ 64 ⌝ }
+    requires { ⌜ 4701 ≤ length (now out) ⌝ }
+    ensures { λ r. ⌜ Puts (tableReport (entriesOf table) dropped) (now (out .entry)) (now (out .exit)) r ⌝ }
+{
+    let thresholds = table.thresholds;
+    let offsets = table.offsets;
+    let n = table.len;
+    let end = put_entries(&thresholds, &offsets, n, out);
+    put_dropped(out, end, dropped as u64)
+}
+
+// The start of a line in quotation marks; nothing where not all of it is text.
+fn put_quoted(out: &mut [u8], at: usize, line: &[u8]) -> usize
+    requires { ⌜ length (now line) ≤ 40 ⌝ }
+    requires { ⌜ at + 44 ≤ length (now out) ⌝ }
+    ensures { λ r. ⌜ PutsAt at (quoted (now (line .entry))) (now (out .entry)) (now (out .exit)) r ⌝ }
+{
+    if !is_text(line) {
+        return at;
+    }
+    put_bytes(out, at, b": \"");
+    put_bytes(out, at + 3, line);
+    let end = at + 3 + line.len();
+    out[end] = b'"';
+    end + 1
+}
+
+// The line of the file that is told, and the line end.
+fn put_place(out: &mut [u8], at: usize, line: usize, bytes: &[u8]) -> usize
+    requires { ⌜ at + 74 ≤ length (now out) ⌝ }
+    ensures { λ r. ⌜ PutsAt at (place line (now (bytes .entry))) (now (out .entry)) (now (out .exit)) r ⌝ }
+{
+    if line == 0 {
+        out[at] = LINE_END;
+        return at + 1;
+    }
+    put_bytes(out, at, b" at line ");
+    let number_end = put_count(out, at + 9, line as u64);
+    let end = put_quoted(out, number_end, start_of_line(bytes, line));
+    out[end] = LINE_END;
+    end + 1
+}
+
+// The refusal of a file.
+pub fn put_refusal(refusal: Refusal, line: usize, bytes: &[u8], out: &mut [u8]) -> usize
+    requires { ⌜ 102 ≤ length (now out) ⌝ }
+    ensures { λ r. ⌜ Puts (refusalReport (numberOf refusal) line (now (bytes .entry)))
+        (now (out .entry)) (now (out .exit)) r ⌝ }
+{
+    put_bytes(out, 0, b"refused ");
+    let end = put_count(out, 8, refusal.number() as u64);
+    put_place(out, end, line, bytes)
+}
