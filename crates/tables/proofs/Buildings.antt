@@ -14,7 +14,7 @@ use Rattle.refusals.proofs.Tells.{number-not-zero}
 use Rattle.refusals.specs.declared.Refusal.{Refusal}
 use Rattle.tables.specs.Answers.{takenIn}
 use Rattle.tables.specs.Entries.{Entry, threshold, offset, valid, checking, buildingRefusal}
-use Rattle.tables.specs.Slots.{paired, entriesOf, validTable, tableOf, built}
+use Rattle.tables.specs.Slots.{paired, entriesOf, validTable, noExpiry, tableOf, built}
 use Rattle.tables.specs.declared.LeapTable.{LeapTable}
 use Rattle.tables.specs.declared.Taken.{Taken}
 use Rattle.tables.specs.declared.Taken.the-variants as taken
@@ -22,10 +22,11 @@ use Rattle.tables.proofs.Neighbours.{passes-valid}
 use Rattle.tables.proofs.Growing.{not-too-long}
 use Rattle.tables.proofs.LeapTable.from_lists.Reads as from-lists-contract
 
--- the table after an accepted building: the list itself, its length that list's length
+-- the table after an accepted building: the list itself, its length that list's length, and no expiry
 pub record Builds (es : List Entry) (table : LeapTable) : Type 0 where
   pub list : entriesOf table ≡ es
   pub size : table .len ≡ length es
+  pub expiry : table .expiry ≡ noExpiry
   pub valid : validTable table ≡ true
 
 -- what a building leaves by its answer
@@ -62,7 +63,7 @@ module _ (es : List Entry) where
   building-builds z =
       let h = not-too-long (ltb 64 (length es)) z in
       let v = table-valid es (ltb-false 64 (length es) (h .0)) (checked-valid es (h .1)) in
-      rw z (record { list = table-list es; size = refl; valid = v })
+      rw z (record { list = table-list es; size = refl; expiry = refl; valid = v })
 
   -- whatever gives the number and the table of the definition
   pub makes : (answer : Taken) (table : LeapTable) → (takenIn answer, table) ≡ built es → Makes es answer table

@@ -32,12 +32,14 @@ pub record Sized (t : LeapTable) : Type 0 where
   pub thresholds : length (t .thresholds) ≡ 64
   pub offsets : length (t .offsets) ≡ 64
 
--- the table after an accepted extension: the old list with the entry joined, its length, no other slot moved
+-- the table after an accepted extension: the old list with the entry joined, its length, no other slot moved, the expiry
+-- it had
 pub record Grows (t : LeapTable) (e : LeapEntry) (after : LeapTable) : Type 0 where
   pub list : entriesOf after ≡ entriesOf t ++ e ∷ []
   pub size : after .len ≡ length (entriesOf t ++ e ∷ [])
   pub thresholds : (i : ℕ) → (i ≡ t .len → ⊥) → getD (after .thresholds) i 0 ≡ getD (t .thresholds) i 0
   pub offsets : (i : ℕ) → (i ≡ t .len → ⊥) → getD (after .offsets) i (pos 0) ≡ getD (t .offsets) i (pos 0)
+  pub expiry : after .expiry ≡ t .expiry
   pub valid : validTable after ≡ true
 
 -- what an extension leaves by its answer: done, the table grown by the entry; refused, the table itself
@@ -76,6 +78,7 @@ module _ (t : LeapTable) (e : LeapEntry) where
           size = sym (length-append (entriesOf t) (e ∷ []) ∙ ap (λ (n : ℕ). n + 1) (length-is k));
           thresholds = λ i n. getD-set-other (t .thresholds) (t .len) i (threshold e) 0 n;
           offsets = λ i n. getD-set-other (t .offsets) (t .len) i (offset e) (pos 0) n;
+          expiry = refl;
           valid = rw (le-leb (t .len + 1) 64 (omega arith), list) (stays-valid (entriesOf t) e (k .is-valid) z);
         }
 

@@ -7,7 +7,7 @@ use native.Mathlib.Omega.{arith}
 use lib.ListN.{length, getD, set, take, drop, replicate}
 use lib.IntN.{ℤ, pos}
 use Rattle.tables.specs.Entries.{threshold, offset}
-use Rattle.tables.specs.Slots.{paired, slots, tableOf}
+use Rattle.tables.specs.Slots.{paired, slots, noExpiry, tableOf}
 use Rattle.tables.specs.declared.LeapTable.{LeapTable}
 use Rattle.tables.proofs.FirstSlots.{slots-length}
 
@@ -44,7 +44,12 @@ offsets-of (suc n) (x ∷ xs) (z ∷ zs) h = ap (λ (l : List ℤ). z ∷ l) (of
 -- zeros written over by the first n thresholds and offsets
 pub table-is : (xs : List ℕ) (zs : List ℤ) (n : ℕ) → n ≤ length xs → n ≤ length zs
     → _≡_ {A = LeapTable}
-    (record { thresholds = over (replicate 64 0) xs n; offsets = over (replicate 64 (pos 0)) zs n; len = n })
+    (record {
+      thresholds = over (replicate 64 0) xs n;
+      offsets = over (replicate 64 (pos 0)) zs n;
+      len = n;
+      expiry = noExpiry;
+    })
     (tableOf (slots xs zs n))
 table-is xs zs n h k =
     rw (

@@ -14,5 +14,6 @@ pub mod Extensions
 pub mod Buildings
 pub mod Lookups
 pub mod Reached
+pub mod Stale
 pub mod Tells
 pub mod Calls

@@ -2,7 +2,7 @@
 use mathlib.Core.Path.{_≡_, sym, ap}
 use Rattle.refusals.proofs.Tells.{number-tells, number-not-zero}
 use Rattle.scales.proofs.Tells.{tai-count-tells}
-use Rattle.tables.specs.Answers.{takenIn, tableAnswerIn, lengthIn, emptyIn, entryIn, updateIn, offsetIn}
+use Rattle.tables.specs.Answers.{takenIn, tableAnswerIn, lengthIn, emptyIn, entryIn, updateIn, offsetIn, datedOffsetIn}
 use Rattle.tables.specs.declared.TableAnswer.{TableAnswer}
 use Rattle.tables.specs.declared.Taken.{Taken}
 use Rattle.tables.specs.declared.Taken.the-variants as taken
@@ -16,6 +16,7 @@ use Rattle.tables.specs.declared.UpdateAnswer.{UpdateAnswer}
 use Rattle.tables.specs.declared.UpdateAnswer.the-variants as update
 use Rattle.tables.specs.declared.OffsetAnswer.{OffsetAnswer}
 use Rattle.tables.specs.declared.OffsetAnswer.the-variants as offset
+use Rattle.tables.specs.declared.DatedOffset.{DatedOffset}
 
 pub taken-tells : (x y : Taken) → takenIn x ≡ takenIn y → x ≡ y
 taken-tells taken.Done taken.Done e = cc
@@ -67,3 +68,7 @@ offset-tells (offset.Offset n) (offset.Offset m) e = cc
 offset-tells (offset.Offset n) (offset.Refused r) e = cc
 offset-tells (offset.Refused r) (offset.Offset m) e = cc
 offset-tells (offset.Refused r) (offset.Refused s) e = ap offset.Refused (number-tells r s (cc))
+
+pub dated-offset-tells : (x y : DatedOffset) → datedOffsetIn x ≡ datedOffsetIn y → x ≡ y
+dated-offset-tells x y e =
+    λ i. record { answer = offset-tells (x .answer) (y .answer) (λ j. e j .0) i; stale = e i .1 }

@@ -23,6 +23,7 @@ use Rattle.tables.specs.declared.LookupAnswer.{LookupAnswer}
 use Rattle.tables.specs.declared.LookupAnswer.the-variants as lookup
 use Rattle.tables.specs.declared.OffsetAnswer.{OffsetAnswer}
 use Rattle.tables.specs.declared.OffsetAnswer.the-variants as offset
+use Rattle.tables.specs.declared.DatedOffset.{DatedOffset}
 
 -- 0 where what was given was taken, else the refusal's number
 abbrev pub takenIn : Taken → ℕ
@@ -58,3 +59,6 @@ lookupIn (lookup.Refused r) = refused (numberOf r)
 abbrev pub offsetIn : OffsetAnswer → Outcome ℤ
 offsetIn (offset.Offset n) = answered n
 offsetIn (offset.Refused r) = refused (numberOf r)
+
+abbrev pub datedOffsetIn : DatedOffset → Outcome ℤ × Bool
+datedOffsetIn r = (offsetIn (r .answer), r .stale)

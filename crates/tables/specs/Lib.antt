@@ -1,4 +1,5 @@
 pub mod Entries
 pub mod Slots
+pub mod Expiry
 pub mod Search
 pub mod Answers

@@ -1,7 +1,7 @@
 -- Which list of entries a table is, and the table of a list.
 use mathlib.Core.Bool.{Bool, cond, _&&_}
 use mathlib.Core.List.{List, [], _∷_, _++_, map}
-use Prim.Native.Nat.{ℕ, _+_, _-_}
+use Prim.Native.Nat.{ℕ, _+_, _-_, _^_}
 use lib.Dec.{leb, eqb}
 use lib.ListN.{length, getD, take, set, replicate}
 use lib.IntN.{ℤ, pos}
@@ -42,20 +42,26 @@ ofValidSlots xs zs n a = cond (validSlots xs zs n) a (refused 8)
 abbrev pub ofValid : {A : Type 0} → LeapTable → Outcome A → Outcome A
 ofValid t a = ofValidSlots (t .thresholds) (t .offsets) (t .len) a
 
--- the table of a list: its entries, and (0, 0) in the slots past them
+-- the expiry of a table that has none: the largest count
+abbrev pub noExpiry : ℕ
+noExpiry = 2 ^ 64 - 1
+
+-- the table of a list: its entries, (0, 0) in the slots past them, and no expiry
 abbrev pub tableOf : List Entry → LeapTable
 tableOf es = record {
   thresholds = map threshold es ++ replicate (64 - length es) 0;
   offsets = map offset es ++ replicate (64 - length es) (pos 0);
   len = length es;
+  expiry = noExpiry;
 }
 
--- the table with an entry in the slot at its length, and no other slot changed
+-- the table with an entry in the slot at its length, no other slot changed, and its expiry
 abbrev pub joinedTo : LeapTable → LeapEntry → LeapTable
 joinedTo t e = record {
   thresholds = set (t .thresholds) (t .len) (threshold e);
   offsets = set (t .offsets) (t .len) (offset e);
   len = t .len + 1;
+  expiry = t .expiry;
 }
 
 -- why a table cannot be extended by an entry: 8, then as its list; 0 where it can

@@ -9,12 +9,15 @@ ghost use Rattle.refusals.specs.Outcome.{answered, changed};
 ghost use Rattle.tables.specs.Entries.{offsetRefusal, stepRefusal, firstRefusal, joinRefusal, lookup, valid, neighbours, day};
 ghost use Rattle.tables.specs.Entries.{aDayOn, regular};
 ghost use Rattle.tables.specs.Slots.{slotAt, slots, validSlots, ofValidSlots, joinedTo, tableOf};
+ghost use Rattle.tables.specs.Expiry.{staleAt, dated};
 ghost use Rattle.tables.specs.Search.{Rises, AtOrBelow};
-ghost use Rattle.tables.specs.Answers.{takenIn, lookupIn, offsetIn};
+ghost use Rattle.tables.specs.Answers.{takenIn, lookupIn, datedOffsetIn};
+use crate::DatedOffset;
 use crate::LeapEntry;
 use crate::LeapTable;
 use crate::Lookup;
 use crate::LookupAnswer;
+use crate::NO_EXPIRY;
 use crate::OffsetAnswer;
 use crate::RUNTIME_CAPACITY;
 use crate::Taken;
@@ -217,13 +220,26 @@ pub fn checked_look_up<'a>(
     }
 }
 
-// The offset that a lookup tells.
-pub fn offset_in(found: LookupAnswer) -> OffsetAnswer
-    ensures { λ r. ⌜ offsetIn r ≡ changed (λ l. l .offset) (lookupIn found) ⌝ }
+// Whether a table with this expiry is stale at a TAI reading.
+pub fn is_stale(expiry: u64, tai: u64) -> bool
+    ensures { λ r. ⌜ r ≡ staleAt expiry tai ⌝ }
+{
+    (expiry != NO_EXPIRY) & (expiry <= tai)
+}
+
+// The offset that a lookup at a TAI reading tells, by a table with this expiry. A refusal is never stale.
+pub fn dated_offset_in(found: LookupAnswer, expiry: u64, tai: u64) -> DatedOffset
+    ensures { λ r. ⌜ datedOffsetIn r ≡ dated (staleAt expiry tai) (changed (λ l. l .offset) (lookupIn found)) ⌝ }
 {
     match found {
-        LookupAnswer::Told(lookup) => OffsetAnswer::Offset(lookup.offset),
-        LookupAnswer::Refused(why) => OffsetAnswer::Refused(why),
+        LookupAnswer::Told(lookup) => DatedOffset {
+            answer: OffsetAnswer::Offset(lookup.offset),
+            stale: is_stale(expiry, tai),
+        },
+        LookupAnswer::Refused(why) => DatedOffset {
+            answer: OffsetAnswer::Refused(why),
+            stale: false,
+        },
     }
 }
 
@@ -275,6 +291,7 @@ pub fn table_of<'a>(thresholds: &'a [u64], offsets: &'a [i32], n: usize) -> Leap
         thresholds: kept_thresholds,
         offsets: kept_offsets,
         len: n,
+        expiry: NO_EXPIRY,
     }
 }
 

@@ -5,6 +5,7 @@ pub mod table;
 
 ghost use mathlib.Core.Path.{_≡_};
 ghost use Rattle.tables.specs.Entries.{entry};
+use counts::units::LARGEST_COUNT;
 use refusals::Refusal;
 use scales::tai::Tai;
 
@@ -28,11 +29,15 @@ impl LeapEntry {
     }
 }
 
-// Up to 64 entries: those in the first `len` slots.
+// The expiry of a table that has none: the largest count.
+pub const NO_EXPIRY: u64 = LARGEST_COUNT;
+
+// Up to 64 entries: those in the first `len` slots. From the TAI reading `expiry` on, the table is stale.
 pub struct LeapTable {
     pub thresholds: [u64; 64],
     pub offsets: [i32; 64],
     pub len: usize,
+    pub expiry: u64,
 }
 
 // Whether entries were taken, or why not.
@@ -64,7 +69,7 @@ pub enum EntryAnswer {
     Refused(Refusal),
 }
 
-// The TAI count of the last event, or nothing.
+// A TAI count, that of the last event or of the expiry, or nothing.
 pub enum UpdateAnswer {
     At(Tai),
     Nothing,
@@ -86,4 +91,10 @@ pub enum LookupAnswer {
 pub enum OffsetAnswer {
     Offset(i32),
     Refused(Refusal),
+}
+
+// The offset in force at a TAI reading, and whether the table is stale there.
+pub struct DatedOffset {
+    pub answer: OffsetAnswer,
+    pub stale: bool,
 }

@@ -7,12 +7,15 @@ ghost use Rattle.refusals.specs.Number.{numberOf};
 ghost use Rattle.refusals.specs.Outcome.{answered};
 ghost use Rattle.tables.specs.Entries.{offsetAt, currentOffset, lastUpdate};
 ghost use Rattle.tables.specs.Slots.{paired, entriesOf, ofValid, tableOf, extended, built};
-ghost use Rattle.tables.specs.Answers.{tableAnswerIn, lengthIn, emptyIn, entryIn, updateIn, offsetIn};
+ghost use Rattle.tables.specs.Expiry.{byTable, expiryIn, expiring};
+ghost use Rattle.tables.specs.Answers.{tableAnswerIn, lengthIn, emptyIn, entryIn, updateIn, offsetIn, datedOffsetIn};
+use crate::DatedOffset;
 use crate::EmptyAnswer;
 use crate::EntryAnswer;
 use crate::LeapEntry;
 use crate::LeapTable;
 use crate::LengthAnswer;
+use crate::NO_EXPIRY;
 use crate::OffsetAnswer;
 use crate::RUNTIME_CAPACITY;
 use crate::TableAnswer;
@@ -31,6 +34,7 @@ impl LeapTable {
             thresholds: [0u64; 64],
             offsets: [0i32; 64],
             len: 0,
+            expiry: NO_EXPIRY,
         }
     }
 
@@ -139,12 +143,44 @@ impl LeapTable {
         }
     }
 
-    // The offset in force at a TAI reading.
-    pub fn tai_minus_utc_at(self, tai: Tai) -> OffsetAnswer
-        ensures { λ r. ⌜ offsetIn r ≡ ofValid self (answered (offsetAt (entriesOf self) (tai .0))) ⌝ }
+    // The offset in force at a TAI reading, and whether the table is stale there.
+    pub fn tai_minus_utc_at(self, tai: Tai) -> DatedOffset
+        ensures { λ r. ⌜ datedOffsetIn r ≡ byTable self (tai .0) (answered (offsetAt (entriesOf self) (tai .0))) ⌝ }
     {
         let n = self.len;
-        inner::offset_in(inner::checked_look_up(&self.thresholds, &self.offsets, n, tai.0))
+        let found = inner::checked_look_up(&self.thresholds, &self.offsets, n, tai.0);
+        inner::dated_offset_in(found, self.expiry, tai.0)
+    }
+
+    // The TAI reading from which on the table is stale, or nothing.
+    pub fn expiry(self) -> UpdateAnswer
+        ensures { λ r. ⌜ updateIn r ≡ ofValid self (answered (expiryIn self)) ⌝ }
+    {
+        let n = self.len;
+        if !inner::is_valid(&self.thresholds, &self.offsets, n) {
+            return UpdateAnswer::Refused(Refusal::BadTable);
+        }
+        if self.expiry == NO_EXPIRY {
+            UpdateAnswer::Nothing
+        } else {
+            UpdateAnswer::At(Tai(self.expiry))
+        }
+    }
+
+    // The table with this expiry in place of its own; the largest count takes it away.
+    pub fn with_expiry(self, expiry: Tai) -> TableAnswer
+        ensures { λ r. ⌜ tableAnswerIn r ≡ expiring self (expiry .0) ⌝ }
+    {
+        let n = self.len;
+        if !inner::is_valid(&self.thresholds, &self.offsets, n) {
+            return refused(Refusal::BadTable, self);
+        }
+        let mut table = self;
+        table.expiry = expiry.0;
+        TableAnswer {
+            answer: Taken::Done,
+            table,
+        }
     }
 }
 
