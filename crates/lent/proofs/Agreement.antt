@@ -1,19 +1,22 @@
 -- The lent forms agree with the calls by value: both answer by the same definitions.
 use mathlib.Core.Path.{_≡_, sym, ap, _∙_}
+use mathlib.Core.Bool.{false}
 use mathlib.Core.List.{List}
 use Prim.Native.Nat.{ℕ, _≤_}
 use borrow.Author.Tests.{le-leb, le-ltb}
 use lib.ListN.{length}
 use Rattle.refusals.specs.Outcome.{Outcome, answered}
-use Rattle.tables.specs.Answers.{takenIn, tableAnswerIn, offsetIn}
+use Rattle.tables.specs.Answers.{takenIn, tableAnswerIn, datedOffsetIn}
 use Rattle.tables.specs.Entries.{Entry, offsetAt, checking}
 use Rattle.tables.specs.Slots.{entriesOf, ofValid, extended, built}
+use Rattle.tables.specs.Expiry.{staleAt, byTable}
 use Rattle.tables.specs.declared.LeapEntry.{LeapEntry}
 use Rattle.tables.specs.declared.LeapTable.{LeapTable}
 use Rattle.tables.specs.declared.TableAnswer.{TableAnswer}
-use Rattle.tables.specs.declared.OffsetAnswer.{OffsetAnswer}
+use Rattle.tables.specs.declared.DatedOffset.{DatedOffset}
 use Rattle.tables.specs.declared.Taken.{Taken}
 use Rattle.tables.proofs.Buildings.{Builds, building-builds}
+use Rattle.tables.proofs.Stale.{answer-kept}
 use Rattle.tables.proofs.Tells.{taken-tells, offset-tells}
 use Rattle.lent.specs.Lists.{ofValidList}
 
@@ -29,13 +32,13 @@ LookedUpAlike =
     → ofValidList (entriesOf t) (answered (offsetAt (entriesOf t) reading))
     ≡ ofValid t (answered (offsetAt (entriesOf t) reading))
 
--- and two answers that meet the contracts of the two lookups are the same
+-- and two answers that meet the contracts of the two lookups are the same offset; of the list it is never stale
 abbrev pub AnsweredAlike : Type 0
 AnsweredAlike =
-    (t : LeapTable) (reading : ℕ) (lent by-value : OffsetAnswer) → t .len ≤ 64
-    → offsetIn lent ≡ ofValidList (entriesOf t) (answered (offsetAt (entriesOf t) reading))
-    → offsetIn by-value ≡ ofValid t (answered (offsetAt (entriesOf t) reading))
-    → lent ≡ by-value
+    (t : LeapTable) (reading : ℕ) (lent by-value : DatedOffset) → t .len ≤ 64
+    → datedOffsetIn lent ≡ (ofValidList (entriesOf t) (answered (offsetAt (entriesOf t) reading)), false)
+    → datedOffsetIn by-value ≡ byTable t reading (answered (offsetAt (entriesOf t) reading))
+    → lent .answer ≡ by-value .answer
 
 -- the check of at most 64 entries gives the number that building from them gives: 0, or the same refusal
 abbrev pub CheckedAlike : Type 0
@@ -65,7 +68,11 @@ pub looked-up-alike : LookedUpAlike
 looked-up-alike t reading few = refused-alike _ t (answered (offsetAt (entriesOf t) reading)) few
 
 pub answered-alike : AnsweredAlike
-answered-alike t reading lent by-value few p q = offset-tells lent by-value (p ∙ looked-up-alike t reading few ∙ sym q)
+answered-alike t reading lent by-value few p q =
+    let found = answered (offsetAt (entriesOf t) reading) in
+    offset-tells (lent .answer) (by-value .answer)
+    ((λ i. p i .0) ∙ looked-up-alike t reading few
+    ∙ sym ((λ i. q i .0) ∙ answer-kept (staleAt (t .expiry) reading) (ofValid t found)))
 
 pub checked-alike : CheckedAlike
 checked-alike es few = rw (le-ltb 64 (length es) few)

@@ -1,15 +1,17 @@
 -- Each call of this crate leaves one answer for each input, and the extension in place one table afterwards.
 use mathlib.Core.Path.{_≡_, refl, sym, ap, _∙_}
+use mathlib.Core.Bool.{false}
 use Prim.Native.Nat.{ℕ}
 use lib.Dec.{eqb}
 use lib.ListN.{length}
 use Rattle.refusals.specs.Outcome.{answered}
 use Rattle.refusals.proofs.OneAnswer.{OneAnswer, viewed}
-use Rattle.tables.specs.Answers.{takenIn, lengthIn, emptyIn, updateIn, offsetIn}
+use Rattle.tables.specs.Answers.{takenIn, lengthIn, emptyIn, updateIn, offsetIn, datedOffsetIn}
 use Rattle.tables.specs.Entries.{checking, offsetAt, currentOffset, lastUpdate}
 use Rattle.tables.specs.Slots.{extended}
 use Rattle.tables.specs.declared.LeapTable.{LeapTable}
-use Rattle.tables.proofs.Tells.{taken-tells, extension-tells, length-tells, empty-tells, update-tells, offset-tells}
+use Rattle.tables.proofs.Tells.{taken-tells, extension-tells, length-tells, empty-tells, update-tells}
+use Rattle.tables.proofs.Tells.{offset-tells, dated-offset-tells}
 use Rattle.lent.specs.Lists.{ofValidList}
 use Rattle.lent.specs.Copied.{ListAnswers, answersIn}
 use Rattle.lent.specs.declared.inner.copied.Answers.{Answers}
@@ -33,9 +35,9 @@ try-from-slice = record {
 
 pub tai-minus-utc-at : LeavesOne tai-minus-utc-at-call.ended (λ M 𝓤 H. tai-minus-utc-at-call.clauses 𝓤 H)
 tai-minus-utc-at = record {
-  says = λ κ a r e. offsetIn r ≡ ofValidList (a .0 .now) (answered (offsetAt (a .0 .now) (a .1 .0 .0)));
+  says = λ κ a r e. datedOffsetIn r ≡ (ofValidList (a .0 .now) (answered (offsetAt (a .0 .now) (a .1 .0 .0))), false);
   states = λ M 𝓤 H A mem run κ a g r e. refl;
-  one = λ κ a x y e f p q. viewed offset-tells x y p q;
+  one = λ κ a x y e f p q. viewed dated-offset-tells x y p q;
 }
 
 pub len : LeavesOne len-call.ended (λ M 𝓤 H. len-call.clauses 𝓤 H)
@@ -84,7 +86,7 @@ answers-tell x y e =
     let b = empty-tells (x .empty) (y .empty) (ap (λ (v : ListAnswers). v .empty) e) in
     let u = update-tells (x .update) (y .update) (ap (λ (v : ListAnswers). v .update) e) in
     let c = offset-tells (x .current) (y .current) (ap (λ (v : ListAnswers). v .current) e) in
-    let f = offset-tells (x .«in_force») (y .«in_force») (ap (λ (v : ListAnswers). v .inForce) e) in
+    let f = dated-offset-tells (x .«in_force») (y .«in_force») (ap (λ (v : ListAnswers). v .inForce) e) in
     λ i. record { check = k i; length = n i; empty = b i; update = u i; current = c i; «in_force» = f i }
 
 pub extended-in-place : OneAnswer extended-in-place-contract.Post

@@ -26,6 +26,7 @@ use Rattle.tables.proofs.LengthAnswer
 use Rattle.tables.proofs.EmptyAnswer
 use Rattle.tables.proofs.UpdateAnswer
 use Rattle.tables.proofs.OffsetAnswer
+use Rattle.tables.proofs.DatedOffset
 use Rattle.lent.specs.declared.inner.Pass.{Pass}
 use Rattle.lent.proofs.inner.Pass as pass
 use Rattle.lent.proofs.inner.copied.Answers
@@ -86,6 +87,9 @@ an-update = of-enum UpdateAnswer.the-type UpdateAnswer.Laws.the-laws UpdateAnswe
 
 abbrev pub an-offset : Valued OffsetAnswer.the-row
 an-offset = of-enum OffsetAnswer.the-type OffsetAnswer.Laws.the-laws OffsetAnswer.Laws.the-plain tt
+
+abbrev pub a-dated-offset : Valued DatedOffset.the-row
+a-dated-offset = of-struct DatedOffset.the-type DatedOffset.Laws.the-laws DatedOffset.Laws.the-plain
 
 abbrev pub a-growth : Valued TableAnswer.the-row
 a-growth = of-struct TableAnswer.the-type TableAnswer.Laws.the-laws TableAnswer.Laws.the-plain

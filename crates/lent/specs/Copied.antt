@@ -1,5 +1,5 @@
 -- What every call answers for one list. Only contracts of functions in `inner` cite it.
-use mathlib.Core.Bool.{Bool}
+use mathlib.Core.Bool.{Bool, false}
 use mathlib.Core.List.{List}
 use mathlib.Core.Option.{Option}
 use Prim.Native.Nat.{ℕ}
@@ -7,7 +7,7 @@ use lib.Dec.{eqb}
 use lib.ListN.{length}
 use lib.IntN.{ℤ}
 use Rattle.refusals.specs.Outcome.{Outcome, answered}
-use Rattle.tables.specs.Answers.{takenIn, lengthIn, emptyIn, updateIn, offsetIn}
+use Rattle.tables.specs.Answers.{takenIn, lengthIn, emptyIn, updateIn, offsetIn, datedOffsetIn}
 use Rattle.tables.specs.Entries.{Entry, checking, offsetAt, currentOffset, lastUpdate}
 use Rattle.lent.specs.Lists.{ofValidList}
 use Rattle.lent.specs.declared.inner.copied.Answers.{Answers}
@@ -18,7 +18,7 @@ pub record ListAnswers : Type 0 where
   pub empty : Outcome Bool
   pub update : Outcome (Option ℕ)
   pub current : Outcome ℤ
-  pub inForce : Outcome ℤ
+  pub inForce : Outcome ℤ × Bool
 
 abbrev pub answersIn : Answers → ListAnswers
 answersIn r = record {
@@ -27,7 +27,7 @@ answersIn r = record {
   empty = emptyIn (r .empty);
   update = updateIn (r .update);
   current = offsetIn (r .current);
-  inForce = offsetIn (r .«in_force»);
+  inForce = datedOffsetIn (r .«in_force»);
 }
 
 -- a list, at a TAI reading
@@ -38,5 +38,5 @@ answersOf es t = record {
   empty = ofValidList es (answered (eqb (length es) 0));
   update = ofValidList es (answered (lastUpdate es));
   current = ofValidList es (answered (currentOffset es));
-  inForce = ofValidList es (answered (offsetAt es t));
+  inForce = (ofValidList es (answered (offsetAt es t)), false);
 }

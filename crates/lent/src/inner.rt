@@ -2,24 +2,27 @@
 pub mod copied;
 
 ghost use mathlib.Core.Path.{_≡_};
+ghost use mathlib.Core.Bool.{false};
 ghost use Prim.Native.Nat.{_+_, _<_, _^_};
 ghost use lib.Dec.{eqb};
 ghost use Rattle.refusals.specs.Outcome.{answered};
 ghost use Rattle.tables.specs.Entries.{offset, valid};
-ghost use Rattle.tables.specs.Answers.{takenIn, lengthIn, emptyIn, updateIn, lookupIn, offsetIn};
+ghost use Rattle.tables.specs.Answers.{takenIn, lengthIn, emptyIn, updateIn, lookupIn, offsetIn, datedOffsetIn};
 ghost use Rattle.lent.specs.Pass.{seenIn, begun, nearer, judged, after, passed, checkAt, ofTaken, updateAt};
 use refusals::Refusal;
 use scales::tai::Tai;
+use tables::DatedOffset;
 use tables::EmptyAnswer;
 use tables::LeapEntry;
 use tables::LengthAnswer;
 use tables::Lookup;
 use tables::LookupAnswer;
+use tables::NO_EXPIRY;
 use tables::OffsetAnswer;
 use tables::Taken;
 use tables::UpdateAnswer;
 use tables::inner::OFFSET_OF_NO_ENTRY;
-use tables::inner::offset_in;
+use tables::inner::dated_offset_in;
 use tables::inner::step;
 use tables::inner::told_of_none;
 
@@ -184,11 +187,11 @@ pub fn look_up(pass: Pass) -> LookupAnswer
     }
 }
 
-// The offset in force at the reading.
-pub fn in_force(pass: Pass) -> OffsetAnswer
-    ensures { λ r. ⌜ offsetIn r ≡ ofTaken (pass .answer) (answered (pass .found .offset)) ⌝ }
+// The offset in force at the reading. A lent list has no expiry.
+pub fn in_force(pass: Pass) -> DatedOffset
+    ensures { λ r. ⌜ datedOffsetIn r ≡ (ofTaken (pass .answer) (answered (pass .found .offset)), false) ⌝ }
 {
-    offset_in(look_up(pass))
+    dated_offset_in(look_up(pass), NO_EXPIRY, pass.tai)
 }
 
 // The pass itself, the only loop over a lent list. No entry is refused exactly if the list is valid.

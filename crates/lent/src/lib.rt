@@ -4,14 +4,16 @@
 pub mod inner;
 
 ghost use mathlib.Core.Path.{_≡_};
+ghost use mathlib.Core.Bool.{false};
 ghost use lib.Dec.{eqb};
 ghost use lib.ListN.{length};
 ghost use Rattle.refusals.specs.Outcome.{answered};
 ghost use Rattle.tables.specs.Entries.{checking, offsetAt, currentOffset, lastUpdate};
 ghost use Rattle.tables.specs.Slots.{extended};
-ghost use Rattle.tables.specs.Answers.{takenIn, lengthIn, emptyIn, updateIn, offsetIn};
+ghost use Rattle.tables.specs.Answers.{takenIn, lengthIn, emptyIn, updateIn, offsetIn, datedOffsetIn};
 ghost use Rattle.lent.specs.Lists.{ofValidList};
 use scales::tai::Tai;
+use tables::DatedOffset;
 use tables::EmptyAnswer;
 use tables::LeapEntry;
 use tables::LeapTable;
@@ -30,10 +32,10 @@ pub fn try_from_slice(entries: &[LeapEntry]) -> Taken
     inner::check(inner::pass_over(entries, NO_READING))
 }
 
-// The offset in force at a TAI reading.
-pub fn tai_minus_utc_at(entries: &[LeapEntry], tai: Tai) -> OffsetAnswer
-    ensures { λ r. ⌜ offsetIn r ≡
-        ofValidList (now (entries .entry)) (answered (offsetAt (now (entries .entry)) (tai .0))) ⌝ }
+// The offset in force at a TAI reading. A list has no expiry, so it is never stale.
+pub fn tai_minus_utc_at(entries: &[LeapEntry], tai: Tai) -> DatedOffset
+    ensures { λ r. ⌜ datedOffsetIn r ≡
+        (ofValidList (now (entries .entry)) (answered (offsetAt (now (entries .entry)) (tai .0))), false) ⌝ }
 {
     inner::in_force(inner::pass_over(entries, tai.0))
 }

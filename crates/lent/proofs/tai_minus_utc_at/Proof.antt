@@ -1,5 +1,6 @@
 -- `tai_minus_utc_at` makes the pass at its reading and reads the offset in force off it.
 use mathlib.Core.Path.{_∙_}
+use mathlib.Core.Bool.{false}
 use denote.Struct.Laws as struct
 use Rattle.lent.proofs.Walking.{_≡_, refl, List, [], _∷_, length, URA, named, w64, vint, SProp, emp, id⊢, via}
 use Rattle.lent.proofs.Walking.{fst∗, Lft, Share, Memory, Routine, Heap, Tables, WpFn, Atoms, Fun, factI}
@@ -11,12 +12,12 @@ use Rattle.lent.proofs.Walking.{yes}
 use Rattle.refusals.specs.Outcome.{answered}
 use Rattle.scales.specs.declared.tai.Tai.{Tai}
 use Rattle.scales.proofs.tai.Tai as Z
-use Rattle.tables.specs.Answers.{offsetIn}
+use Rattle.tables.specs.Answers.{datedOffsetIn}
 use Rattle.tables.specs.Entries.{offset}
 use Rattle.tables.specs.declared.LeapEntry.{LeapEntry}
 use Rattle.tables.proofs.LeapEntry as E
 use Rattle.lent.specs.Pass.{ofTaken}
-use Rattle.lent.proofs.Values.{a-pass, a-reading, an-offset, pv}
+use Rattle.lent.proofs.Values.{a-pass, a-reading, a-dated-offset, pv}
 use Rattle.lent.proofs.Locals.{enters, frees-at, held, arg, lands-at}
 use Rattle.lent.proofs.LetGo.{let-go, Walk, ends, by-walk-let-go}
 use Rattle.lent.proofs.CallInWalk.{calls-plain}
@@ -55,11 +56,11 @@ module _ {M : Type 1} (𝓤 : URA M) (H : Heap 𝓤) (A : Atoms 𝓤) (W : Given
         lands-at ! 2 refl (a-pass .typed W p g) $
         calls-plain ! 𝓣 read.ended (read.clauses 𝓤 H A at-mem run) known-read
         ((tt, tt, tt, (p, tt), (pv p ∷ [], tt)), tt) (a-pass .makes W, tt) (g, tt) (id⊢ 𝓤 _) (id⊢ 𝓤 _)
-        (λ r. offsetIn r ≡ ofTaken (p .answer) (answered (p .found .offset))) (λ r ws. id⊢ 𝓤 _) an-offset
-        (arg ! 3 refl) (λ r is gr. lands-at ! 8 refl (an-offset .typed W r gr) $ returns ! (look ! 8 refl) $
+        (λ r. datedOffsetIn r ≡ (ofTaken (p .answer) (answered (p .found .offset)), false)) (λ r ws. id⊢ 𝓤 _) a-dated-offset
+        (arg ! 3 refl) (λ r is gr. lands-at ! 8 refl (a-dated-offset .typed W r gr) $ returns ! (look ! 8 refl) $
         frees-at ! 8 refl $ frees-at ! 6 refl $ frees-at ! 4 refl $ frees-at ! 2 refl $ free0 ! $ move ! (1 ∷ []) $
-        ends ! this.ended c y an-offset r (tt, (tt, tt)) gr
-        (factI 𝓤 _ (emp 𝓤) (is ∙ in-force-read (z .0) (x .now) p said)))))
+        ends ! this.ended c y a-dated-offset r (tt, (tt, tt)) gr
+        (factI 𝓤 _ (emp 𝓤) (is ∙ (λ i. (in-force-read (z .0) (x .now) p said i, false)))))))
 
   walks : Walks 𝓤 H A this.ended (let-go this.ended) (WpFn 𝓤 H (𝓣 .C) (𝓣 .Λ) this.Code.function) c
   walks = walked 𝓤 H A this.ended (let-go this.ended) c (WpFn 𝓤 H (𝓣 .C) (𝓣 .Λ) this.Code.function)

@@ -13,6 +13,7 @@ use crate::tai_minus_utc_at;
 use crate::try_extend;
 use crate::try_from_slice;
 use scales::tai::Tai;
+use tables::DatedOffset;
 use tables::EmptyAnswer;
 use tables::LeapEntry;
 use tables::LeapTable;
@@ -30,7 +31,7 @@ pub struct Answers {
     pub empty: EmptyAnswer,
     pub update: UpdateAnswer,
     pub current: OffsetAnswer,
-    pub in_force: OffsetAnswer,
+    pub in_force: DatedOffset,
 }
 
 // A table extended in place.

@@ -3,6 +3,7 @@
 use Prim.Native.Nat.{_≤_}
 use lib.ListN.{take}
 use lib.Seq.{length-take-le}
+use mathlib.Core.Bool.{false}
 use lib.Dec.{eqb, lit<}
 use package.mir.Syntax.{erased, imm, tyRef}
 use base.Fml.{flent}
@@ -27,14 +28,14 @@ use Rattle.lent.proofs.Walking.{Walks, walked, yes}
 use Rattle.refusals.specs.Outcome.{answered}
 use Rattle.scales.specs.declared.tai.Tai.{Tai}
 use Rattle.scales.proofs.tai.Tai as Z
-use Rattle.tables.specs.Answers.{takenIn, lengthIn, emptyIn, updateIn, offsetIn}
+use Rattle.tables.specs.Answers.{takenIn, lengthIn, emptyIn, updateIn, offsetIn, datedOffsetIn}
 use Rattle.tables.specs.Entries.{checking, offsetAt, currentOffset, lastUpdate}
 use Rattle.tables.specs.declared.LeapEntry.{LeapEntry}
 use Rattle.tables.proofs.LeapEntry as E
 use Rattle.lent.specs.Lists.{ofValidList}
 use Rattle.lent.specs.declared.inner.copied.Answers.{Answers}
 use Rattle.lent.proofs.inner.copied.Answers as S
-use Rattle.lent.proofs.Values.{a-reading, an-array, answers}
+use Rattle.lent.proofs.Values.{a-reading, an-array, answers, a-dated-offset}
 use Rattle.lent.proofs.Values.{a-refusal, a-length, an-emptiness, an-update, an-offset}
 use Rattle.lent.proofs.Locals.{enters, frees-at, held, arg, sets, lands-at}
 use Rattle.lent.proofs.LetGo.{let-go, Walk, ends, by-walk-let-go}
@@ -71,8 +72,8 @@ module _ {M : Type 1} (𝓤 : URA M) (H : Heap 𝓤) (A : Atoms 𝓤) (W : Given
     (Viewing an-update updateIn (λ ys. ofValidList ys (answered (lastUpdate ys))) 𝓤 H A))
     (known-current : Triple 𝓤 (𝓣 .C current.Symbol.name)
     (Viewing an-offset offsetIn (λ ys. ofValidList ys (answered (currentOffset ys))) 𝓤 H A))
-    (known-at : Triple 𝓤 (𝓣 .C at.Symbol.name) (Answering an-offset (plain (λ _. Z.the-row) ∷ []) (yes, tt) 𝓤 H A
-    (λ κs a r. offsetIn r ≡ ofValidList (a .0 .now) (answered (offsetAt (a .0 .now) (a .1 .0 .0)))))) where
+    (known-at : Triple 𝓤 (𝓣 .C at.Symbol.name) (Answering a-dated-offset (plain (λ _. Z.the-row) ∷ []) (yes, tt) 𝓤 H A
+    (λ κs a r. datedOffsetIn r ≡ (ofValidList (a .0 .now) (answered (offsetAt (a .0 .now) (a .1 .0 .0))), false)))) where
   abbrev c : Clauses 𝓤 this.ended
   c = this.clauses 𝓤 H A at-mem run
 
@@ -129,9 +130,9 @@ module _ {M : Type 1} (𝓤 : URA M) (H : Heap 𝓤) (A : Atoms 𝓤) (W : Given
         lands-at ! 8 refl (an-update .typed W r₄ g₄) $
         asks an-offset [] tt _ (α ∷ []) q (x l₄ γ) tt tt ! 𝓣 known-current tt tt (arg ! 18 refl) (λ r₅ p₅ g₅.
         lands-at ! 6 refl (an-offset .typed W r₅ g₅) $
-        asks an-offset (plain (λ _. Z.the-row) ∷ []) (yes, tt) _ (α ∷ []) q (x l₄ γ) (z, tt) (a-reading .val z ∷ [], tt)
+        asks a-dated-offset (plain (λ _. Z.the-row) ∷ []) (yes, tt) _ (α ∷ []) q (x l₄ γ) (z, tt) (a-reading .val z ∷ [], tt)
         ! 𝓣 known-at (a-reading .makes W, tt) (gz, tt) (and-then ! (held ! 18 refl) (arg ! 21 refl)) (λ r₆ p₆ g₆.
-        lands-at ! 4 refl (an-offset .typed W r₆ g₆) $
+        lands-at ! 4 refl (a-dated-offset .typed W r₆ g₆) $
         move ! (1 ∷ []) $ use1 W (‵ (flft (α ∷ []) q) ⊛ ‵ ftrue) (id⊢ 𝓤 _) $ split ! $
         -- [the token; …; the lender's part at 3; the rest; _12 at 5; …]
         lft-end ! tt $ move ! (0 ∷ 3 ∷ []) $ lent-back ! tt $ move ! (0 ∷ 3 ∷ []) $
