@@ -8,7 +8,7 @@ use native.Mathlib.Omega.{arith}
 use native.Mathlib.Decide.{decLt}
 use borrow.Author.Tests.{le-leb, lt-leb}
 use lib.IntN.{pos}
-use Rattle.refusals.specs.Outcome.{Outcome, answered, refused, then}
+use Rattle.refusals.specs.Outcome.{Outcome, answered, refused, valueIn, then}
 use Rattle.refusals.proofs.Given.{no-refusal}
 use Rattle.refusals.proofs.Steps.{goes-on, stops, then-then}
 use Rattle.counts.specs.Exact.{countOf, up, down}
@@ -16,8 +16,13 @@ use Rattle.counts.specs.Units.{second}
 use Rattle.counts.proofs.Fitting.{is-count, no-count}
 use Rattle.scales.specs.Scales.{taiMinusGps}
 use Rattle.tables.specs.Entries.{Entry, offsetAt, regular}
-use Rattle.conversions.specs.Conversions.{utcAtOffset, gpsToUtc, utcToGps}
-use Rattle.conversions.specs.Shifted.{sameAnswer, laterOf, shiftedToUtc, utcToShifted}
+use Rattle.conversions.specs.Conversions.{utcAtOffset, gpsToUtc, lastReading, utcToGps}
+use Rattle.conversions.specs.Shifted.{sameAnswer, laterOf, shiftedToUtc, utcToShifted, shiftedReading}
+
+-- a refusal is no answer's same
+pub no-same : (o : Outcome ℕ) {k : ℕ} {p : Outcome ℕ} → p ≡ refused k → sameAnswer o p ≡ false
+no-same (answered m) e = rw e
+no-same (refused j) e = refl
 
 -- a number that is no count is refused by the conversion too
 module _ (es : List Entry) where
@@ -49,10 +54,6 @@ module _ (es : List Entry) where
     pub shared : regular es ≡ true → sameAnswer utc later-utc ≡ true → later ≡ laterOf es earlier
     shared r t = go (decLt (earlier + second) (2 ^ 64))
       where
-        no-same : (o : Outcome ℕ) {k : ℕ} {p : Outcome ℕ} → p ≡ refused k → sameAnswer o p ≡ false
-        no-same (answered m) e = rw e
-        no-same (refused j) e = refl
-
         go : Dec (earlier + second < 2 ^ 64) → later ≡ laterOf es earlier
         go (yes h) = is ∙ is-count (earlier + second) h ∙ sym (rw (r, sym by-counts ∙ t))
         go (no h) =
@@ -103,6 +104,25 @@ module _ (d : ℕ) (v : Bool) (es : List Entry) (utc : Outcome ℕ) where
         where
           go : (v : Bool) (utc : Outcome ℕ) → cond v (then utc (utcToGps es)) (refused 8) ≡ answered g
               → then (laterOf es g) (down d) ≡ cond v (then utc (utcToShifted d es)) (refused 8)
+          go false utc p = absurd (no-refusal (refused 8) p refl)
+          go true (refused j) p = absurd (no-refusal (refused j) p refl)
+          go true (answered u) p = rw (p, lt-leb d g l)
+
+      -- and the reading that is looked up last
+      pub reads-first : d ≤ g → lastReading es (valueIn 0 utc) ≡ shiftedReading d es (valueIn 0 utc)
+      reads-first l = go v utc (sym is ∙ e)
+        where
+          go : (v : Bool) (utc : Outcome ℕ) → cond v (then utc (utcToGps es)) (refused 8) ≡ answered g
+              → lastReading es (valueIn 0 utc) ≡ shiftedReading d es (valueIn 0 utc)
+          go false utc p = absurd (no-refusal (refused 8) p refl)
+          go true (refused j) p = absurd (no-refusal (refused j) p refl)
+          go true (answered u) p = rw (p, le-leb d g l)
+
+      pub reads-later : g < d → g + second + taiMinusGps ≡ shiftedReading d es (valueIn 0 utc)
+      reads-later l = go v utc (sym is ∙ e)
+        where
+          go : (v : Bool) (utc : Outcome ℕ) → cond v (then utc (utcToGps es)) (refused 8) ≡ answered g
+              → g + second + taiMinusGps ≡ shiftedReading d es (valueIn 0 utc)
           go false utc p = absurd (no-refusal (refused 8) p refl)
           go true (refused j) p = absurd (no-refusal (refused j) p refl)
           go true (answered u) p = rw (p, lt-leb d g l)

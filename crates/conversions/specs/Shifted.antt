@@ -4,11 +4,12 @@ use mathlib.Core.Bool.{Bool, false, cond, _&&_}
 use mathlib.Core.List.{List}
 use Prim.Native.Nat.{ℕ, _+_}
 use lib.Dec.{leb, eqb}
-use Rattle.refusals.specs.Outcome.{Outcome, answered, refused, then}
+use Rattle.refusals.specs.Outcome.{Outcome, answered, refused, valueIn, then, changed}
 use Rattle.counts.specs.Exact.{up, down}
 use Rattle.counts.specs.Units.{second}
+use Rattle.scales.specs.Scales.{taiMinusGps}
 use Rattle.tables.specs.Entries.{Entry, regular}
-use Rattle.conversions.specs.Conversions.{glonassEpoch, gpsToUtc, utcToGps}
+use Rattle.conversions.specs.Conversions.{glonassEpoch, gpsToUtc, lastReading, utcToGps}
 
 abbrev pub shiftedToUtc : ℕ → List Entry → ℕ → Outcome ℕ
 shiftedToUtc d es n = then (up d n) (gpsToUtc es)
@@ -30,6 +31,11 @@ laterOf es earlier =
 abbrev pub utcToShifted : ℕ → List Entry → ℕ → Outcome ℕ
 utcToShifted d es utc =
     then (utcToGps es utc) (λ gps. then (cond (leb d gps) (answered gps) (laterOf es gps)) (down d))
+
+-- and the TAI reading that is looked up last: that of the later count where the earlier is before the scale's epoch
+abbrev pub shiftedReading : ℕ → List Entry → ℕ → ℕ
+shiftedReading d es utc =
+    valueIn 0 (changed (λ gps. cond (leb d gps) (lastReading es utc) (gps + second + taiMinusGps)) (utcToGps es utc))
 
 -- ---- by way of UTC
 abbrev pub shiftedToGlonass : ℕ → List Entry → ℕ → Outcome ℕ

@@ -1,6 +1,7 @@
 // The conversions between GPS and UTC in parts, on plain counts, whatever store the lookups are made in. A count may
 // come from a step before: what that refused stays refused.
 pub mod by_table;
+pub mod dated;
 pub mod later;
 pub mod steps;
 
@@ -110,7 +111,8 @@ pub fn reading_of(tai: CountAnswer) -> u64
     count_or(tai, 0)
 }
 
-fn utc_of_reading(found: Lookup, tai: CountAnswer) -> CountAnswer
+// A TAI reading as UTC, by what a lookup there tells.
+pub fn utc_of_reading(found: Lookup, tai: CountAnswer) -> CountAnswer
     ensures { λ r. ⌜ countIn r ≡ utcFromLookup (countIn tai) found ⌝ }
 {
     match tai {
@@ -119,7 +121,7 @@ fn utc_of_reading(found: Lookup, tai: CountAnswer) -> CountAnswer
     }
 }
 
-// A TAI reading as UTC, by what a lookup there tells.
+// The same, or the refusal of the lookup.
 pub fn utc_from_lookup(found: LookupAnswer, tai: CountAnswer) -> CountAnswer
     ensures { λ r. ⌜ countIn r ≡ then (lookupIn found) (utcFromLookup (countIn tai)) ⌝ }
 {

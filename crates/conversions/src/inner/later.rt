@@ -43,8 +43,11 @@ pub fn later_of(earlier: u64, table: LeapTable) -> CountAnswer
         return CountAnswer::Refused(Refusal::Overflow);
     }
     let later = sums::plus(earlier, units::NANOS_PER_SECOND);
-    let utc = by_table::utc_from_gps(CountAnswer::Count(earlier), table);
-    if same_count(utc, by_table::utc_from_gps(later, table)) {
+    let of_earlier = by_table::utc_from_gps(CountAnswer::Count(earlier), table);
+    let of_later = by_table::utc_from_gps(later, table);
+    let utc = of_earlier.answer;
+    let later_utc = of_later.answer;
+    if same_count(utc, later_utc) {
         later
     } else {
         CountAnswer::Refused(Refusal::Overflow)
