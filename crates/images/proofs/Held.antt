@@ -9,7 +9,7 @@ use lib.ListN.{length}
 use Rattle.refusals.specs.Outcome.{Outcome, answered, refused, then, changed}
 use Rattle.tables.specs.Entries.{Entry, valid}
 use Rattle.tables.specs.Slots.{entriesOf, validTable}
-use Rattle.tables.proofs.Checked.{Checked, checked, eight-first, eight-changed}
+use Rattle.tables.proofs.Checked.{Checked, checked, eight-first, eight-changed, told-valid}
 use Rattle.tables.proofs.Neighbours.{both}
 use Rattle.images.specs.Image.{sized, tableIn, byImage}
 use Rattle.images.proofs.InSlots.{table-sized}
@@ -19,12 +19,12 @@ module _ (b : List ℕ) where
   holds = sized b && validTable (tableIn b)
 
   -- with an image's size and at most 64 slots, the test is that of the entries
-  pub by-entries : length b ≡ 776 → tableIn b .len ≤ 64 → valid (entriesOf (tableIn b)) ≡ holds
-  by-entries s f = rw (eq-eqb (length b) 776 s, le-leb (tableIn b .len) 64 f)
+  pub by-entries : length b ≡ 784 → tableIn b .len ≤ 64 → valid (entriesOf (tableIn b)) ≡ holds
+  by-entries s f = rw (eq-eqb (length b) 784 s, le-leb (tableIn b .len) 64 f)
 
   pub record Held : Type 0 where
     pub passes : holds ≡ true
-    pub size : length b ≡ 776
+    pub size : length b ≡ 784
     pub table : Checked (tableIn b)
 
   pub held : {v : Bool} → v ≡ holds → v ≡ true → Held
@@ -34,7 +34,7 @@ module _ (b : List ℕ) where
       let h = both (sized b) (validTable (tableIn b)) passes in
       record {
         passes = passes;
-        size = eqb-true (length b) 776 (h .0);
+        size = eqb-true (length b) 784 (h .0);
         table = checked (tableIn b) (s .thresholds) (s .offsets) (h .1);
       }
 
@@ -70,10 +70,14 @@ module _ (b : List ℕ) where
       by-test true e = cc
       by-test false e = refl
 
+  -- and one that answers, that there is one
+  pub told-held : {A : Type 0} (a : A) {x : A} → answered x ≡ byImage b (λ es. answered a) → Held
+  told-held a e = held refl (told-valid a holds (e ∙ one-test (answered a)))
+
 -- a reader of a table that is held answers by its slots
 module _ {b : List ℕ} (h : Held b) where
   pub answers : {A : Type 0} {x y : A} → x ≡ y → answered x ≡ byImage b (λ es. answered y)
   answers {x} {y} e = ap answered e ∙ sym (one-test b (answered y) ∙ rw (h .passes))
 
-  pub slot-within : {n i : ℕ} → n ≡ tableIn b .len → i < n → (length b ≡ 776) × (i < 64)
+  pub slot-within : {n i : ℕ} → n ≡ tableIn b .len → i < n → (length b ≡ 784) × (i < 64)
   slot-within e l = (h .size, omega (arith, h .table .few))

@@ -36,6 +36,10 @@ module _ (b : List ℕ) where
   unfolding tableIn
   length-is = refl
 
+  pub expiry-is : numberIn (take 8 (drop 776 b)) ≡ tableIn b .expiry
+  unfolding tableIn
+  expiry-is = refl
+
   pub table-sized : Sized (tableIn b)
   unfolding tableIn
   table-sized = record {

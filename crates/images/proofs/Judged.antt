@@ -45,7 +45,7 @@ module _ (b : List ℕ) where
 
   -- the bytes of an image, with a table that says it has n entries, at most 64
   pub record Opened (n : ℕ) : Type 0 where
-    pub size : length b ≡ 776
+    pub size : length b ≡ 784
     pub len : n ≡ tableIn b .len
     pub few : n ≤ 64
 

@@ -8,4 +8,6 @@ mod InSlots
 mod OnePass
 mod Judged
 pub mod Held
+pub mod Dated
+mod FoundFirst
 pub mod Calls

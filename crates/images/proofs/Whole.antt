@@ -1,4 +1,4 @@
--- An image as a whole: its three parts, written over 776 bytes a slot at a turn.
+-- An image as a whole: its four parts, written over 784 bytes a slot at a turn.
 use mathlib.Core.Path.{_≡_, refl, sym, _∙_}
 use mathlib.Core.Bool.{cond}
 use mathlib.Core.List.{List, _++_, map, append-nil}
@@ -19,8 +19,8 @@ use Rattle.words.proofs.Stores.{joined, sets-apart}
 use Rattle.images.specs.Image.{bytesOfAll, sized, imageOf, stored}
 use Rattle.images.proofs.Fields.{all-bytes-count, field-written, all-fields-written}
 
-abbrev pub tableOfParts : List ℕ → List ℤ → ℕ → LeapTable
-tableOfParts ts zs n = record { thresholds = ts; offsets = zs; len = n }
+abbrev pub tableOfParts : List ℕ → List ℤ → (len expiry : ℕ) → LeapTable
+tableOfParts ts zs n x = record { thresholds = ts; offsets = zs; len = n; expiry = x }
 
 module _ (t : LeapTable) where
   abbrev pub front : List ℕ
@@ -35,10 +35,17 @@ module _ (t : LeapTable) where
   abbrev pub back : List ℕ
   back = bytesOfAll 4 bits
 
+  abbrev pub last : List ℕ
+  last = bytesOf 8 (t .expiry)
+
   -- the bytes once the slots from i on are written over them
-  abbrev pub writtenFrom : ℕ → List ℕ → List ℕ
-  writtenFrom i b =
+  abbrev pub slotsWrittenFrom : ℕ → List ℕ → List ℕ
+  slotsWrittenFrom i b =
       sets (sets b (8 + 8 * i) (bytesOfAll 8 (drop i (t .thresholds)))) (520 + 4 * i) (bytesOfAll 4 (drop i bits))
+
+  -- and the expiry after them
+  abbrev pub writtenFrom : ℕ → List ℕ → List ℕ
+  writtenFrom i b = sets (slotsWrittenFrom i b) 776 last
 
 module _ {t : LeapTable} (s : Sized t) where
   bits-count : length (bits t) ≡ 64
@@ -49,23 +56,28 @@ module _ {t : LeapTable} (s : Sized t) where
       length-append (front t) (middle t)
       ∙ omega (arith, bytes-count 8 (t .len), all-bytes-count 8 (t .thresholds), s .thresholds)
 
-  pub image-count : length (imageOf t) ≡ 776
-  unfolding imageOf
-  image-count =
+  pub before-last : length (front t ++ middle t ++ back t) ≡ 776
+  before-last =
       length-append (front t ++ middle t) (back t) ∙ omega (arith, before-back, all-bytes-count 4 (bits t), bits-count)
 
-  pub length-written : (b : List ℕ) {x : List ℕ} → length b ≡ 776 → x ≡ sets b 0 (front t)
+  pub image-count : length (imageOf t) ≡ 784
+  unfolding imageOf
+  image-count =
+      length-append (front t ++ middle t ++ back t) (last t) ∙ omega (arith, before-last, bytes-count 8 (t .expiry))
+
+  pub length-written : (b : List ℕ) {x : List ℕ} → length b ≡ 784 → x ≡ sets b 0 (front t)
       → writtenFrom t 0 x ≡ imageOf t
   unfolding imageOf
   length-written b l e =
       let all = image-count ∙ sym l in
       let parts = joined b 0 8 (front t) (middle t) e (omega (arith, bytes-count 8 (t .len))) refl in
-      joined b 0 520 (front t ++ middle t) (back t) parts (omega (arith, before-back)) refl
-      ∙ sets-eq (front t ++ middle t ++ back t) b 0 (omega arith) ∙ rw (zero-add, all, drop-length, append-nil)
+      let slots = joined b 0 520 (front t ++ middle t) (back t) parts (omega (arith, before-back)) refl in
+      joined b 0 776 (front t ++ middle t ++ back t) (last t) slots (omega (arith, before-last)) refl
+      ∙ sets-eq (front t ++ middle t ++ back t ++ last t) b 0 (omega arith) ∙ rw (zero-add, all, drop-length, append-nil)
 
   pub slot-written : (b : List ℕ) (i : ℕ) {x y : List ℕ} {v : ℕ} → i < 64
       → x ≡ sets b (8 + 8 * i) (bytesOf 8 (getD (t .thresholds) i 0)) → v ≡ ofZ w32 (getD (t .offsets) i (pos 0))
-      → y ≡ sets x (520 + 4 * i) (bytesOf 4 v) → writtenFrom t (i + 1) y ≡ writtenFrom t i b
+      → y ≡ sets x (520 + 4 * i) (bytesOf 4 v) → slotsWrittenFrom t (i + 1) y ≡ slotsWrittenFrom t i b
   slot-written b i {x} {y} {v} l e f g =
       let rest = bytesOfAll 8 (drop (i + 1) (t .thresholds)) in
       let apart : 8 + 8 * (i + 1) + length rest ≤ 520 + 4 * i
@@ -75,20 +87,20 @@ module _ {t : LeapTable} (s : Sized t) where
       (field-written _ (bits t) 4 520 i v (omega (arith, bits-count)) bits-are
       ∙ rw (e, field-written b (t .thresholds) 8 8 i _ (omega (arith, s .thresholds)) refl))
 
-  pub all-slots-written : (b : List ℕ) (i : ℕ) → i ≡ 64 → writtenFrom t i b ≡ b
+  pub all-slots-written : (b : List ℕ) (i : ℕ) → i ≡ 64 → slotsWrittenFrom t i b ≡ b
   all-slots-written b i e =
       all-fields-written _ (bits t) 4 (520 + 4 * i) i (e ∙ sym bits-count)
       ∙ all-fields-written b (t .thresholds) 8 (8 + 8 * i) i (e ∙ sym (s .thresholds))
 
 -- the test of the size decides
 module _ {A : Type 0} (b : List ℕ) (x y : A) where
-  pub of-size : length b ≡ 776 → x ≡ cond (sized b) x y
-  of-size h = rw (eq-eqb (length b) 776 h)
+  pub of-size : length b ≡ 784 → x ≡ cond (sized b) x y
+  of-size h = rw (eq-eqb (length b) 784 h)
 
-  pub not-of-size : (length b ≡ 776 → ⊥) → y ≡ cond (sized b) x y
-  not-of-size h = rw (ne-eqb (length b) 776 h)
+  pub not-of-size : (length b ≡ 784 → ⊥) → y ≡ cond (sized b) x y
+  not-of-size h = rw (ne-eqb (length b) 784 h)
 
--- an extension's answer decides what is stored
+-- the answer decides what is stored
 module _ (b : List ℕ) (x : ℕ × LeapTable) where
   pub refusal-stored : (k : ℕ) → x .0 ≡ k → (k ≡ 0 → ⊥) → (k, b) ≡ stored b x
   refusal-stored k e n = rw (e, ne-eqb k 0 n)

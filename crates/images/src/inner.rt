@@ -13,16 +13,19 @@ ghost use mir.Val.{toZ};
 ghost use Rattle.refusals.specs.Number.{numberOf};
 ghost use Rattle.refusals.specs.Outcome.{then};
 ghost use Rattle.counts.specs.Exact.{down};
-ghost use Rattle.counts.specs.Answers.{countIn};
-ghost use Rattle.tables.specs.Answers.{tableAnswerIn};
+ghost use Rattle.counts.specs.Units.{second};
+ghost use Rattle.scales.specs.Scales.{taiMinusGps};
+ghost use Rattle.tables.specs.Answers.{takenIn, tableAnswerIn};
 ghost use Rattle.tables.specs.Slots.{tableOf, entriesOf, validTable};
+ghost use Rattle.tables.specs.Expiry.{staleAt, dated};
+ghost use Rattle.conversions.specs.Answers.{datedIn};
 ghost use Rattle.conversions.specs.Shifted.{laterOf};
-ghost use Rattle.images.specs.Image.{numbersIn, imageBytes, tableIn, imageOf};
-use conversions::inner::later::later_of;
-use conversions::inner::steps;
-use counts::CountAnswer;
+ghost use Rattle.images.specs.Image.{numbersIn, imageBytes, tableIn, imageOf, stored};
+use conversions::inner::by_table;
+use conversions::inner::dated::DatedCount;
 use refusals::Refusal;
 use tables::LeapTable;
+use tables::NO_EXPIRY;
 use tables::RUNTIME_CAPACITY;
 use tables::TableAnswer;
 use tables::Taken;
@@ -44,8 +47,13 @@ pub const ENTRY_BYTES: usize = THRESHOLD_BYTES + OFFSET_BYTES;
 // Where the offsets of an image begin: 520.
 pub const OFFSETS_AT: usize = LENGTH_BYTES + RUNTIME_CAPACITY * THRESHOLD_BYTES;
 
-// The bytes of an image: 776.
-pub const IMAGE_BYTES: usize = OFFSETS_AT + RUNTIME_CAPACITY * OFFSET_BYTES;
+// Where the expiry of an image begins: 776.
+pub const EXPIRY_AT: usize = OFFSETS_AT + RUNTIME_CAPACITY * OFFSET_BYTES;
+
+pub const EXPIRY_BYTES: usize = 8;
+
+// The bytes of an image: 784.
+pub const IMAGE_BYTES: usize = EXPIRY_AT + EXPIRY_BYTES;
 
 // A refusal, with the empty table.
 pub fn no_table(why: Refusal) -> TableAnswer
@@ -58,7 +66,7 @@ pub fn no_table(why: Refusal) -> TableAnswer
     }
 }
 
-// A table of n slots. Thresholds and offsets have each a place of the first and a stride from one to the next.
+// A table of n slots, without an expiry. Thresholds and offsets have each a place of the first and a stride from one to the next.
 pub fn slots_at(
     bytes: &[u8],
     thresholds_at: usize,
@@ -88,6 +96,7 @@ pub fn slots_at(
         thresholds,
         offsets,
         len: n,
+        expiry: NO_EXPIRY,
     }
 }
 
@@ -107,24 +116,28 @@ pub fn table_in(image: &[u8]) -> LeapTable
     let thresholds = slots.thresholds;
     let offsets = slots.offsets;
     let len = number_in_8(image, 0) as usize;
+    let expiry = number_in_8(image, EXPIRY_AT);
     LeapTable {
         thresholds,
         offsets,
         len,
+        expiry,
     }
 }
 
 // The count of a scale that is behind GPS, by the later of two GPS counts that share a UTC count. The table is copied for
 // that, where the earlier is before the scale's epoch.
-pub fn shifted_by_later(image: &[u8], gps: u64, behind: u64) -> CountAnswer
+pub fn shifted_by_later(image: &[u8], gps: u64, behind: u64) -> DatedCount
     requires { ⌜ length (now image) ≡ imageBytes ⌝ }
     requires { ⌜ validTable (tableIn (now image)) ≡ true ⌝ }
-    ensures { λ r. ⌜ countIn r ≡ then (laterOf (entriesOf (tableIn (now (image .entry)))) gps) (down behind) ⌝ }
+    ensures { λ r. ⌜ datedIn r ≡
+        dated (staleAt (tableIn (now (image .entry)) .expiry) (gps + second + taiMinusGps))
+        (then (laterOf (entriesOf (tableIn (now (image .entry)))) gps) (down behind)) ⌝ }
 {
-    steps::down(later_of(gps, table_in(image)), behind)
+    by_table::shifted_by_later(gps, table_in(image), behind)
 }
 
-// The image of a table over what was there: the length, then a threshold and an offset at a turn.
+// The image of a table over what was there: the length, then a threshold and an offset at a turn, then the expiry.
 pub fn put_table(image: &mut [u8], table: LeapTable)
     requires { ⌜ length (now image) ≡ imageBytes ⌝ }
     ensures { λ _. ⌜ now (image .exit) ≡ imageOf table ⌝ }
@@ -142,4 +155,19 @@ pub fn put_table(image: &mut [u8], table: LeapTable)
         put_number(image, OFFSETS_AT + OFFSET_BYTES * i, OFFSET_BYTES, bits);
         i += 1;
     }
+    put_number(image, EXPIRY_AT, EXPIRY_BYTES, table.expiry);
+}
+
+// The image of the table in an answer, or its refusal and the bytes as they were.
+pub fn store(image: &mut [u8], after: TableAnswer) -> Taken
+    requires { ⌜ length (now image) ≡ imageBytes ⌝ }
+    ensures { λ r. ⌜ (takenIn r, now (image .exit)) ≡ stored (now (image .entry)) (tableAnswerIn after) ⌝ }
+{
+    let answer = after.answer;
+    if let Taken::Refused(why) = answer {
+        return Taken::Refused(why);
+    }
+    let table = after.table;
+    put_table(image, table);
+    Taken::Done
 }

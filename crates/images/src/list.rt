@@ -2,16 +2,18 @@
 // offset, and any number of entries. It is checked and looked up where it stands. Bytes that are no whole number of
 // entries are no list, and every call refuses them by 8.
 ghost use mathlib.Core.Path.{_≡_};
+ghost use mathlib.Core.Bool.{false};
 ghost use lib.Dec.{eqb};
 ghost use lib.ListN.{length};
 ghost use Rattle.refusals.specs.Outcome.{answered};
 ghost use Rattle.tables.specs.Entries.{offsetAt, currentOffset, lastUpdate};
-ghost use Rattle.tables.specs.Answers.{takenIn, lengthIn, emptyIn, updateIn, offsetIn};
+ghost use Rattle.tables.specs.Answers.{takenIn, lengthIn, emptyIn, updateIn, offsetIn, datedOffsetIn};
 ghost use Rattle.images.specs.Listed.{listChecked, ofListed};
 use crate::inner;
 use crate::inner::entries::pass_over;
 use refusals::Refusal;
 use scales::tai::Tai;
+use tables::DatedOffset;
 use tables::EmptyAnswer;
 use tables::LengthAnswer;
 use tables::OffsetAnswer;
@@ -31,12 +33,16 @@ pub fn try_from_slice(entries: &[u8]) -> Taken
     lent::inner::check(pass_over(entries, NO_READING))
 }
 
-// The offset in force at a TAI reading.
-pub fn tai_minus_utc_at(entries: &[u8], tai: Tai) -> OffsetAnswer
-    ensures { λ r. ⌜ offsetIn r ≡ ofListed (now (entries .entry)) (λ es. answered (offsetAt es (tai .0))) ⌝ }
+// The offset in force at a TAI reading. A list has no expiry, so it is never stale.
+pub fn tai_minus_utc_at(entries: &[u8], tai: Tai) -> DatedOffset
+    ensures { λ r. ⌜ datedOffsetIn r ≡
+        (ofListed (now (entries .entry)) (λ es. answered (offsetAt es (tai .0))), false) ⌝ }
 {
     if entries.len() % inner::ENTRY_BYTES != 0 {
-        return OffsetAnswer::Refused(Refusal::BadTable);
+        return DatedOffset {
+            answer: OffsetAnswer::Refused(Refusal::BadTable),
+            stale: false,
+        };
     }
     lent::inner::in_force(pass_over(entries, tai.0))
 }

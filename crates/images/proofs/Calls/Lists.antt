@@ -1,13 +1,14 @@
 -- Each call on a list as bytes leaves one answer for each input.
 use Rattle.refusals.proofs.OneAnswer.{OneAnswer, viewed}
 use Rattle.tables.proofs.Tells.{taken-tells, length-tells, empty-tells, update-tells, offset-tells}
+use Rattle.tables.proofs.Tells.{dated-offset-tells}
 use Rattle.images.proofs.list
 
 pub try-from-slice : OneAnswer list.try_from_slice.Reads.Post
 try-from-slice κ a x y e f p q = viewed taken-tells x y p q
 
 pub tai-minus-utc-at : OneAnswer list.tai_minus_utc_at.Reads.Post
-tai-minus-utc-at κ a x y e f p q = viewed offset-tells x y p q
+tai-minus-utc-at κ a x y e f p q = viewed dated-offset-tells x y p q
 
 pub len : OneAnswer list.len.Reads.Post
 len κ a x y e f p q = viewed length-tells x y p q

@@ -4,11 +4,11 @@ use mathlib.Core.List.{List}
 use Prim.Native.Nat.{ℕ}
 use denote.Ref.{now}
 use Rattle.refusals.proofs.OneAnswer.{OneAnswer, OneAnswerAndEnd, viewed}
-use Rattle.counts.proofs.Tells.{count-tells}
+use Rattle.conversions.proofs.Tells.{dated-tells}
 use Rattle.tables.specs.Answers.{takenIn}
 use Rattle.tables.specs.declared.Taken.{Taken}
 use Rattle.tables.proofs.Tells.{taken-tells, extension-tells, length-tells, empty-tells, entry-tells, update-tells}
-use Rattle.tables.proofs.Tells.{offset-tells}
+use Rattle.tables.proofs.Tells.{offset-tells, dated-offset-tells}
 use Rattle.images.proofs.table
 
 -- an answer and the bytes left, by one equation
@@ -46,19 +46,25 @@ pub current-tai-minus-utc : OneAnswer table.current_tai_minus_utc.Reads.Post
 current-tai-minus-utc κ a x y e f p q = viewed offset-tells x y p q
 
 pub tai-minus-utc-at : OneAnswer table.tai_minus_utc_at.Reads.Post
-tai-minus-utc-at κ a x y e f p q = viewed offset-tells x y p q
+tai-minus-utc-at κ a x y e f p q = viewed dated-offset-tells x y p q
+
+pub expiry : OneAnswer table.expiry.Reads.Post
+expiry κ a x y e f p q = viewed update-tells x y p q
+
+pub set-expiry : OneAnswerAndEnd table.set_expiry.Reads.Post (λ κ e. now (e .0))
+set-expiry κ a x y e f p q = answer-and-bytes p q
 
 pub utc-from-gps : OneAnswer table.utc_from_gps.Reads.Post
-utc-from-gps κ a x y e f p q = viewed count-tells x y p q
+utc-from-gps κ a x y e f p q = viewed dated-tells x y p q
 
 pub gps-from-utc : OneAnswer table.gps_from_utc.Reads.Post
-gps-from-utc κ a x y e f p q = viewed count-tells x y p q
+gps-from-utc κ a x y e f p q = viewed dated-tells x y p q
 
 pub utc-from-shifted : OneAnswer table.utc_from_shifted.Reads.Post
-utc-from-shifted κ a x y e f p q = viewed count-tells x y p q
+utc-from-shifted κ a x y e f p q = viewed dated-tells x y p q
 
 pub shifted-from-utc : OneAnswer table.shifted_from_utc.Reads.Post
-shifted-from-utc κ a x y e f p q = viewed count-tells x y p q
+shifted-from-utc κ a x y e f p q = viewed dated-tells x y p q
 
 pub shifted-from-glonass : OneAnswer table.shifted_from_glonass.Reads.Post
-shifted-from-glonass κ a x y e f p q = viewed count-tells x y p q
+shifted-from-glonass κ a x y e f p q = viewed dated-tells x y p q

@@ -1,10 +1,11 @@
-// The slots of the table in an image of 776 bytes, each read where it stands.
+// The slots, the length and the expiry of the table in an image of 784 bytes, each read where it stands.
 ghost use mathlib.Core.Path.{_≡_};
 ghost use Prim.Native.Nat.{_<_};
 ghost use lib.ListN.{length, getD};
 ghost use lib.IntN.{pos};
 ghost use Rattle.tables.specs.Slots.{slotAt};
 ghost use Rattle.images.specs.Image.{imageBytes, tableIn};
+use crate::inner::EXPIRY_AT;
 use crate::inner::LENGTH_BYTES;
 use crate::inner::OFFSET_BYTES;
 use crate::inner::OFFSETS_AT;
@@ -20,6 +21,14 @@ pub fn len(image: &[u8]) -> usize
     ensures { λ r. ⌜ r ≡ tableIn (now (image .entry)) .len ⌝ }
 {
     number_in_8(image, 0) as usize
+}
+
+// The expiry of the table in an image.
+pub fn expiry(image: &[u8]) -> u64
+    requires { ⌜ length (now image) ≡ imageBytes ⌝ }
+    ensures { λ r. ⌜ r ≡ tableIn (now (image .entry)) .expiry ⌝ }
+{
+    number_in_8(image, EXPIRY_AT)
 }
 
 // The threshold in slot i.

@@ -1,4 +1,4 @@
--- `table::write` puts the image of a table over 776 bytes.
+-- `table::write` puts the image of a table over 784 bytes.
 use mathlib.Core.Path.{ap}
 use mathlib.Core.List.{List}
 use Prim.Native.Nat.{ℕ}
@@ -7,7 +7,7 @@ use borrow.Author.Tests.{ne-eqb}
 use Rattle.images.proofs.table.write as call
 
 returns : call.Tie.Need-returns
-returns c = rw (ne-eqb _ 776 (c .if1 .taken))
+returns c = rw (ne-eqb _ 784 (c .if1 .taken))
 
 returns-2 : call.Tie.Need-returns-2
 returns-2 c =

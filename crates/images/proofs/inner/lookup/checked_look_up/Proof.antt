@@ -49,7 +49,7 @@ step c =
     (ap (ofZ w64) (sym (given-is (c .before))) ∙ c .if5 .left)
 
 returns : call.Tie.Need-returns Inv-loop μ-loop
-returns c = rw (ne-eqb _ 776 (c .if1 .taken))
+returns c = rw (ne-eqb _ 784 (c .if1 .taken))
 
 returns-2 : call.Tie.Need-returns-2 Inv-loop μ-loop
 returns-2 c = rw (c .before .before .if1 .left, lt-leb _ 64 (rw (c .before .len .ensures) at (c .if2 .taken)))

@@ -2,8 +2,7 @@
 use mathlib.Core.Path.{sym, ap, _∙_}
 use denote.Ref.{now}
 use Rattle.tables.specs.Answers.{lookupIn}
-use Rattle.tables.proofs.Checked.{told-valid}
-use Rattle.images.proofs.Held.{holds, one-test, told-none}
+use Rattle.images.proofs.Held.{told-held, told-none}
 use borrow.Author.Needs.{needs}
 use Rattle.images.proofs.inner.lookup.is_valid as call
 
@@ -11,7 +10,7 @@ returns : call.Tie.Need-returns
 returns c =
     let b = now (c .before .before .before .before .args .image) in
     let found = sym (ap lookupIn (c .enum-told .given .1)) ∙ c .before .before .checked-look-up .ensures in
-    sym (told-valid _ (holds b) (found ∙ one-test b _))
+    sym (told-held b _ found .passes)
 
 returns-2 : call.Tie.Need-returns-2
 returns-2 c =
