@@ -3,6 +3,7 @@
 use mathlib.Core.Path.{_≡_, refl, sym, ap, _∙_}
 use mathlib.Core.Bool.{Bool, true, false, cond, _||_, or-false, or-assoc, false≢true, true≢false}
 use mathlib.Core.List.{List, [], _∷_}
+use mathlib.Core.Option.{Option}
 use Prim.Native.Nat.{ℕ, zero, suc, _+_, _<_}
 use native.Mathlib.Omega.{arith}
 use lib.Dec.{eqb·suc-zero, ltb}
@@ -10,7 +11,7 @@ use lib.ListN.{length, length-map}
 use lib.IntN.{ℤ, pos}
 use Rattle.tables.proofs.Integers.{equal-true}
 use Rattle.records.specs.Records.{Record, recordOf, event, isFirst, hasFirst, upToFirst, afterFirst, kept}
-use Rattle.records.specs.Records.{orElse, followRefusal, orderRefusal, fileOrder, isAbove, someAbove, entryOf}
+use Rattle.records.specs.Records.{orElse, followRefusal, orderRefusal, fileOrder, isAbove, someAbove, noCount, entryOf}
 use Rattle.records.specs.Records.{recordsRefusal}
 use Rattle.records.specs.Judged.{Judged, begun, dropped, keeping, byCount, judged, judgedAll, verdictOf}
 use Rattle.records.specs.Judged.{keptEntries}
@@ -178,16 +179,18 @@ counted rs = go (hasFirst rs) refl
     go true f = rw f (whole begun rs refl f .counts ∙ ap suc (sym (length-map (afterFirst rs) entryOf)))
     go false f = rw f (none-kept begun rs refl f)
 
-pub all-judged : (none : ℕ) (rs : List Record) → verdictOf none (judgedAll begun rs) ≡ recordsRefusal none rs
+pub all-judged : (missing : ℕ) (expiry : Option ℤ) (rs : List Record)
+    → verdictOf missing expiry (judgedAll begun rs) ≡ recordsRefusal missing expiry rs
 unfolding judgedAll
-all-judged none [] = refl
-all-judged none (r ∷ rs) = go (hasFirst (r ∷ rs)) refl
+all-judged missing expiry [] = refl
+all-judged missing expiry (r ∷ rs) = go (hasFirst (r ∷ rs)) refl
   where
     go : (b : Bool) → hasFirst (r ∷ rs) ≡ b
-        → verdictOf none (judgedAll begun (r ∷ rs)) ≡ recordsRefusal none (r ∷ rs)
+        → verdictOf missing expiry (judgedAll begun (r ∷ rs)) ≡ recordsRefusal missing expiry (r ∷ rs)
     go true f =
         let w = whole begun (r ∷ rs) refl f in
         let long = ltb 64 (suc (length (afterFirst (r ∷ rs)))) in
+        let above = someAbove (afterFirst (r ∷ rs)) || noCount expiry in
         rw (
           w .some,
           w .counts,
@@ -196,7 +199,7 @@ all-judged none (r ∷ rs) = go (hasFirst (r ∷ rs)) refl
           eqb·suc-zero (length rs),
           eqb·suc-zero (length (afterFirst (r ∷ rs))),
           f,
-          by-test (someAbove (afterFirst (r ∷ rs))) 0 (orElse (cond long 5 0) (fileOrder (r ∷ rs))),
+          by-test above 0 (orElse (cond long 5 0) (fileOrder (r ∷ rs))),
           by-test long 4 (fileOrder (r ∷ rs)),
         )
     go false f =

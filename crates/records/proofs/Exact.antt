@@ -1,15 +1,16 @@
 -- Exact seconds by their sign and size: their sums, their order, and which are above the counts in nanoseconds.
 use mathlib.Core.Path.{_≡_, refl, sym, ap, _∙_}
-use mathlib.Core.Bool.{Bool, true, false}
+use mathlib.Core.Bool.{Bool, true, false, cond, not}
+use mathlib.Core.Option.{some}
 use Prim.Native.Nat.{ℕ, suc, _+_, _*_, _-_, _≤_, _<_, _^_}
 use native.Mathlib.Omega.{arith}
-use borrow.Author.Tests.{le-leb, lt-leb, leb-true, leb-false}
-use lib.Dec.{leb}
+use borrow.Author.Tests.{le-leb, lt-leb, leb-true, leb-false, eq-eqb, ne-eqb}
+use lib.Dec.{leb, eqb}
 use lib.IntN.{ℤ, pos, negsuc, subℕ, natAbs, _+ℤ_, _-ℤ_}
 use lib.Signed.{leZ}
 use Rattle.counts.specs.Units.{second}
 use Rattle.counts.proofs.Difference.{not-below, by-order, same, plus, less}
-use Rattle.records.specs.Records.{isAbove, nanosOf}
+use Rattle.records.specs.Records.{isAbove, noCount, nanosOf}
 use Rattle.records.specs.Seconds.{secondsIn}
 use Rattle.records.specs.declared.inner.seconds.Seconds.{Seconds}
 
@@ -40,6 +41,11 @@ size-onward n = rw (from-zero n)
 
 pub size-back : (n : ℕ) → natAbs (subℕ 0 n) ≡ n
 size-back n = by-order (λ z. natAbs z ≡ n) 0 n (λ l. omega arith) (λ h. omega arith)
+
+-- an expiry below 0 has no nanoseconds
+pub counted-nanos : (z : ℤ) → cond (isAbove z) 0 (nanosOf z) ≡ cond (noCount (some z)) 0 (nanosOf z)
+counted-nanos (pos n) = refl
+counted-nanos (negsuc n) = refl
 
 module _ (s : Seconds) where
   pub back-is : s .below ≡ true → secondsIn s ≡ subℕ 0 (s .size)
@@ -74,3 +80,13 @@ module _ (s : Seconds) where
 
   pub onward-nanos : s .below ≡ false → nanosOf (secondsIn s) ≡ s .size * second
   onward-nanos e = ap nanosOf (onward-is e ∙ from-zero (s .size))
+
+  pub back-no-count : s .below ≡ true → not (eqb (s .size) 0) ≡ noCount (some (secondsIn s))
+  back-no-count e =
+      rw (back-is e)
+      (by-order (λ z. not (eqb (s .size) 0) ≡ noCount (some z)) 0 (s .size)
+      (λ l. rw (ne-eqb (s .size) 0 (λ z. omega (arith, z))))
+      (λ h. rw (eq-eqb (s .size) 0 (omega arith)) (sym (lt-leb (2 ^ 64) ((0 - s .size) * second) (omega arith)))))
+
+  pub onward-no-count : s .below ≡ false → isAbove (secondsIn s) ≡ noCount (some (secondsIn s))
+  onward-no-count e = rw (onward-is e ∙ from-zero (s .size))

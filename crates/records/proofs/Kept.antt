@@ -3,6 +3,7 @@
 use mathlib.Core.Path.{_≡_, refl, sym, ap, _∙_}
 use mathlib.Core.Bool.{Bool, true, false, cond}
 use mathlib.Core.List.{List, [], _∷_, _++_, map}
+use mathlib.Core.Option.{Option}
 use Prim.Native.Nat.{ℕ, zero, suc, _+_, _-_, _≤_, _<_}
 use native.Mathlib.Nat.{sub-zero, suc-sub-suc}
 use native.Mathlib.Omega.{arith}
@@ -12,7 +13,7 @@ use lib.IntN.{ℤ, pos}
 use Rattle.tables.specs.Entries.{Entry, threshold, offset, entry}
 use Rattle.tables.specs.Slots.{tableOf}
 use Rattle.records.specs.Records.{Record, isFirst, hasFirst, afterFirst, kept, someAbove, entryOf}
-use Rattle.records.specs.Records.{recordsRefusal, tableFrom}
+use Rattle.records.specs.Records.{noCount, recordsRefusal, expiryOf, tableFrom}
 use Rattle.records.specs.Judged.{Judged, judgedIn, begun, dropped, keeping, byCount, judged, judgedAll}
 use Rattle.records.specs.Judged.{verdictOf, keptEntries, Holds}
 use Rattle.records.specs.declared.inner.Progress.{Progress}
@@ -137,21 +138,26 @@ module _ (rs : List Record) (ts : List ℕ) (ns : List ℤ) (p q : Progress) (r 
         }
 
 -- ---- the table
-module _ (none : ℕ) (rs : List Record) (ts : List ℕ) (ns : List ℤ) (p : Progress) (h : Holds rs ts ns p) where
-  verdict-is : verdictOf none (judgedIn p) ≡ recordsRefusal none rs
-  verdict-is = ap (verdictOf none) (h .seen) ∙ all-judged none rs
+module _ (missing : ℕ) (expiry : Option ℤ) (rs : List Record) (ts : List ℕ) (ns : List ℤ) (p : Progress)
+    (h : Holds rs ts ns p) where
+  verdict-is : verdictOf missing expiry (judgedIn p) ≡ recordsRefusal missing expiry rs
+  verdict-is = ap (verdictOf missing expiry) (h .seen) ∙ all-judged missing expiry rs
 
   -- on a refusal the table has no entry
-  pub holds-refused : (k : ℕ) → (k ≡ 0 → ⊥) → k ≡ verdictOf none (judgedIn p) → (k, tableOf []) ≡ tableFrom none rs
+  pub holds-refused : (k : ℕ) → (k ≡ 0 → ⊥) → k ≡ verdictOf missing expiry (judgedIn p)
+      → (k, tableOf []) ≡ tableFrom missing expiry rs
   holds-refused k n e = rw (← (e ∙ verdict-is), ne-eqb k 0 n)
 
-  -- else it is the arrays
-  pub holds-finish : 0 < none → 0 ≡ verdictOf none (judgedIn p)
-      → (0, record { thresholds = ts; offsets = ns; len = p .count }) ≡ tableFrom none rs
-  holds-finish l e =
-      let z : recordsRefusal none rs ≡ 0 = sym (e ∙ verdict-is) in
-      let a = accepted none rs z l in
+  -- else it is the arrays, with the expiry that was read
+  pub holds-finish : (x : ℕ) → x ≡ cond (noCount expiry) 0 (expiryOf expiry) → 0 < missing
+      → 0 ≡ verdictOf missing expiry (judgedIn p)
+      → (0, record { thresholds = ts; offsets = ns; len = p .count; expiry = x }) ≡ tableFrom missing expiry rs
+  holds-finish x at l e =
+      let z : recordsRefusal missing expiry rs ≡ 0 = sym (e ∙ verdict-is) in
+      let a = accepted missing expiry rs z l in
       let es : keptEntries rs ≡ map entryOf (kept rs) = rw (a .has-first) in
-      let few : length (keptEntries rs) ≤ 64 = rw es (accepted-few none rs z l) in
+      let few : length (keptEntries rs) ≤ 64 = rw es (accepted-few missing expiry rs z l) in
       let n : p .count ≡ length (keptEntries rs) = ap (λ (j : Judged). j .count) (h .seen) ∙ counted rs in
-      rw (z, h .thresholds (a .none-above) few, h .offsets (a .none-above) few, n, es)
+      let counts : x ≡ expiryOf expiry =
+      at ∙ ap (λ (b : Bool). cond b 0 (expiryOf expiry)) (a .expires-at-count) in
+      rw (z, h .thresholds (a .none-above) few, h .offsets (a .none-above) few, n, es, counts)

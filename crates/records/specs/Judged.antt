@@ -3,6 +3,7 @@
 use mathlib.Core.Path.{_≡_}
 use mathlib.Core.Bool.{Bool, true, false, cond, _||_}
 use mathlib.Core.List.{List, [], _∷_, map}
+use mathlib.Core.Option.{Option}
 use Prim.Native.Nat.{ℕ, zero, suc, _≤_}
 use lib.Dec.{eqb, ltb}
 use lib.ListN.{length}
@@ -11,7 +12,7 @@ use Rattle.tables.specs.Answers.{takenIn}
 use Rattle.tables.specs.Entries.{Entry}
 use Rattle.tables.specs.Slots.{tableOf}
 use Rattle.records.specs.Records.{Record, event, isFirst, orElse, followRefusal, isAbove, nanosOf}
-use Rattle.records.specs.Records.{hasFirst, afterFirst, kept, someAbove, entryOf}
+use Rattle.records.specs.Records.{hasFirst, afterFirst, kept, someAbove, noCount, entryOf}
 use Rattle.records.specs.Seconds.{secondsIn}
 use Rattle.records.specs.declared.inner.Progress.{Progress}
 
@@ -75,11 +76,11 @@ unfoldable pub judgedAll : Judged → List Record → Judged
 judgedAll j [] = j
 judgedAll j (r ∷ rs) = judgedAll (judged j r) rs
 
--- why the records seen make no table
-abbrev pub verdictOf : ℕ → Judged → ℕ
-verdictOf none j =
+-- why the records seen make no table with an expiry
+abbrev pub verdictOf : ℕ → Option ℤ → Judged → ℕ
+verdictOf missing expiry j =
     cond (j .some)
-    (cond (eqb (j .count) 0) none (cond (j .above) 1 (cond (ltb 64 (j .count)) 5 (j .why))))
+    (cond (eqb (j .count) 0) missing (cond (j .above || noCount expiry) 1 (cond (ltb 64 (j .count)) 5 (j .why))))
     6
 
 -- the entries kept so far

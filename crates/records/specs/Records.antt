@@ -2,6 +2,7 @@
 -- reader to say.
 use mathlib.Core.Bool.{Bool, true, false, cond, _||_}
 use mathlib.Core.List.{List, [], _∷_, map}
+use mathlib.Core.Option.{Option, none, some}
 use Prim.Native.Nat.{ℕ, _*_, _^_}
 use lib.Dec.{leb, ltb, eqb}
 use lib.ListN.{length}
@@ -9,7 +10,8 @@ use lib.IntN.{ℤ, pos, negsuc, _-ℤ_}
 use lib.Signed.{leZ}
 use Rattle.counts.specs.Units.{second}
 use Rattle.tables.specs.Entries.{Entry, entry, equal, offsetRefusal}
-use Rattle.tables.specs.Slots.{tableOf}
+use Rattle.tables.specs.Slots.{tableOf, noExpiry}
+use Rattle.tables.specs.Expiry.{withExpiry}
 use Rattle.tables.specs.declared.LeapTable.{LeapTable}
 
 -- from the TAI second `threshold` on, TAI is `offset` seconds ahead of UTC; in a file both may be any integers
@@ -76,13 +78,21 @@ unfoldable pub someAbove : List Record → Bool
 someAbove [] = false
 someAbove (r ∷ rs) = isAbove (r .threshold) || someAbove rs
 
--- 6 for no record, `none` where none has offset 19; then of the kept ones 1 and 5, and of all 3, 7, 4
-abbrev pub recordsRefusal : ℕ → List Record → ℕ
-recordsRefusal none rs =
+-- the TAI second of an expiry is below 0, or its nanoseconds are above the counts
+abbrev pub noCount : Option ℤ → Bool
+noCount none = false
+noCount (some (pos s)) = isAbove (pos s)
+noCount (some (negsuc s)) = true
+
+-- 6 for no record, `missing` where none has offset 19; then 1 for a kept threshold or an expiry that is no count, 5 for
+-- too many kept ones, and of all 3, 7, 4
+abbrev pub recordsRefusal : ℕ → Option ℤ → List Record → ℕ
+recordsRefusal missing expiry rs =
     cond (eqb (length rs) 0) 6
     (cond (hasFirst rs)
-    (orElse (cond (someAbove (afterFirst rs)) 1 0) (orElse (cond (ltb 64 (length (kept rs))) 5 0) (fileOrder rs)))
-    none)
+    (orElse (cond (someAbove (afterFirst rs) || noCount expiry) 1 0)
+    (orElse (cond (ltb 64 (length (kept rs))) 5 0) (fileOrder rs)))
+    missing)
 
 -- ---- the table
 -- a second in nanoseconds; none that is kept is below 0
@@ -93,6 +103,15 @@ nanosOf (negsuc s) = 0
 abbrev pub entryOf : Record → Entry
 entryOf r = entry (nanosOf (r .threshold)) (r .offset)
 
--- the refusal's number, or 0, and the table: on a refusal the one with no entry
-abbrev pub tableFrom : ℕ → List Record → ℕ × LeapTable
-tableFrom none rs = (recordsRefusal none rs, tableOf (cond (eqb (recordsRefusal none rs) 0) (map entryOf (kept rs)) []))
+-- the expiry of the table: that of its TAI second, or none
+abbrev pub expiryOf : Option ℤ → ℕ
+expiryOf none = noExpiry
+expiryOf (some s) = nanosOf s
+
+-- the refusal's number, or 0, and the table: on a refusal the one with no entry and no expiry
+abbrev pub tableFrom : ℕ → Option ℤ → List Record → ℕ × LeapTable
+tableFrom missing expiry rs = (
+  recordsRefusal missing expiry rs,
+  cond (eqb (recordsRefusal missing expiry rs) 0) (withExpiry (expiryOf expiry) (tableOf (map entryOf (kept rs))))
+      (tableOf []),
+)

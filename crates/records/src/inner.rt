@@ -10,8 +10,8 @@ ghost use lib.IntN.{natAbs};
 ghost use Rattle.refusals.specs.Number.{numberOf};
 ghost use Rattle.tables.specs.Answers.{takenIn, tableAnswerIn};
 ghost use Rattle.records.specs.Records.{Record, event, orElse, followRefusal, isAbove};
-ghost use Rattle.records.specs.Records.{nanosOf, tableFrom};
-ghost use Rattle.records.specs.Seconds.{secondsIn, recordIn};
+ghost use Rattle.records.specs.Records.{nanosOf, noCount, expiryOf, tableFrom};
+ghost use Rattle.records.specs.Seconds.{secondsIn, recordIn, expirySecondIn};
 ghost use Rattle.records.specs.Judged.{judgedIn, begun, dropped, keeping, judged};
 ghost use Rattle.records.specs.Judged.{verdictOf, Holds};
 use counts::units::LARGEST_COUNT;
@@ -21,6 +21,7 @@ use seconds::Seconds;
 use seconds::less_offset;
 use seconds::not_after;
 use tables::LeapTable;
+use tables::NO_EXPIRY;
 use tables::RUNTIME_CAPACITY;
 use tables::TableAnswer;
 use tables::Taken;
@@ -31,6 +32,12 @@ use tables::inner::offset_step;
 pub struct LeapRecord {
     pub threshold: Seconds,
     pub offset: i32,
+}
+
+// The TAI second of a file's expiry.
+pub enum Expiry {
+    Nothing,
+    At(Seconds),
 }
 
 // What has been seen of the records so far.
@@ -216,9 +223,34 @@ pub fn take(
     seen_now
 }
 
-// Why the records seen make no table; `none` where none has offset 19.
-fn verdict(seen: Progress, none: Refusal) -> Taken
-    ensures { λ r. ⌜ takenIn r ≡ verdictOf (numberOf none) (judgedIn seen) ⌝ }
+// Whether an expiry is below 0 or above the counts.
+fn is_no_count(expiry: Expiry) -> bool
+    ensures { λ r. ⌜ r ≡ noCount (expirySecondIn expiry) ⌝ }
+{
+    match expiry {
+        Expiry::Nothing => false,
+        Expiry::At(second) => {
+            if second.below {
+                return second.size != 0;
+            }
+            is_above(second)
+        }
+    }
+}
+
+// The expiry of a table; 0 where it is no count.
+fn expiry_nanos(expiry: Expiry) -> u64
+    ensures { λ r. ⌜ r ≡ cond (noCount (expirySecondIn expiry)) 0 (expiryOf (expirySecondIn expiry)) ⌝ }
+{
+    match expiry {
+        Expiry::Nothing => NO_EXPIRY,
+        Expiry::At(second) => nanos_of(second),
+    }
+}
+
+// Why the records seen make no table with this expiry; `none` where none has offset 19.
+fn verdict(seen: Progress, none: Refusal, expiry: Expiry) -> Taken
+    ensures { λ r. ⌜ takenIn r ≡ verdictOf (numberOf none) (expirySecondIn expiry) (judgedIn seen) ⌝ }
 {
     if !seen.some {
         return Taken::Refused(Refusal::EmptyTable);
@@ -226,7 +258,7 @@ fn verdict(seen: Progress, none: Refusal) -> Taken
     if seen.count == 0 {
         return Taken::Refused(none);
     }
-    if seen.above {
+    if seen.above | is_no_count(expiry) {
         return Taken::Refused(Refusal::Overflow);
     }
     if RUNTIME_CAPACITY < seen.count {
@@ -235,17 +267,18 @@ fn verdict(seen: Progress, none: Refusal) -> Taken
     seen.why
 }
 
-// The table of the records seen, or why there is none.
+// The table of the records seen, with this expiry, or why there is none.
 pub fn finish(
     thresholds: [u64; 64],
     offsets: [i32; 64],
     seen: Progress,
     none: Refusal,
+    expiry: Expiry,
 ) -> TableAnswer
     ensures { λ r. ⌜ ((rs : List Record) → Holds rs thresholds offsets seen
-        → tableAnswerIn r ≡ tableFrom (numberOf none) rs) ⌝ }
+        → tableAnswerIn r ≡ tableFrom (numberOf none) (expirySecondIn expiry) rs) ⌝ }
 {
-    let answer = verdict(seen, none);
+    let answer = verdict(seen, none, expiry);
     if let Taken::Refused(why) = answer {
         let refused = Taken::Refused(why);
         return TableAnswer {
@@ -260,6 +293,7 @@ pub fn finish(
             thresholds: thresholds,
             offsets: offsets,
             len: seen.count,
+            expiry: expiry_nanos(expiry),
         },
     }
 }
