@@ -4,17 +4,23 @@ use mathlib.Core.Path.{_≡_, refl, sym, ap, _∙_}
 use mathlib.Core.Bool.{Bool, true, false, cond, _&&_, _||_, true≢false, or-true, or-false}
 use mathlib.Core.List.{List, [], _∷_}
 use Prim.Native.Nat.{ℕ, zero, suc, _+_, _-_, _≤_, _<_}
+use native.Mathlib.Numerals.{add-one}
+use native.Mathlib.Decide.{decLt}
 use native.Mathlib.Omega.{arith}
 use borrow.Author.Tests.{eqb-true, eq-eqb, ne-eqb}
 use lib.Dec.{eqb}
-use lib.ListN.{length, getD, take, drop, length-drop}
+use lib.ListN.{length, getD, take, drop, length-drop, drop-of-length-le, List·getD-eq-default}
 use lib.Seq.{drop-cons, getD-take, getD-drop, length-take-le}
 use Rattle.refusals.specs.Outcome.{Outcome, refused}
 use Rattle.words.specs.Decimal.{isDigit, countRead}
 use Rattle.texts.specs.Ends.{untilEnd}
+use Rattle.texts.proofs.FirstLine.{until-within}
 use Rattle.published.specs.LeapSecondsList.{takeWhile, dropWhile, begins, isBlank, isHash, endsInReturn}
-use Rattle.published.specs.LeapSecondsList.{in31Bits, offsetRead}
+use Rattle.published.specs.LeapSecondsList.{malformed, in31Bits, offsetRead, expiresAt, expiryRead}
 use Rattle.published.specs.Places.{firstLine}
+
+pub length-line : (s : List ℕ) → length (firstLine s) ≡ untilEnd s
+length-line s = length-take-le (untilEnd s) s (until-within s)
 
 -- ---- parts by a test that a line end does not pass
 module _ (test : ℕ → Bool) (in-line : test 10 ≡ false) where
@@ -51,6 +57,22 @@ module _ (test : ℕ → Bool) (in-line : test 10 ≡ false) where
       by-byte true e = rw (e, fails b e)
       by-byte false e = rw e
 
+-- a byte that does not end the line, and the line from the next byte on
+pub line-on : (s : List ℕ) (at : ℕ) → at < length s → (getD s at 0 ≡ 10 → ⊥)
+    → firstLine (drop at s) ≡ getD s at 0 ∷ firstLine (drop (at + 1) s)
+line-on s at inside other = rw (add-one, drop-cons s at 0 inside, ne-eqb (getD s at 0) 10 other)
+
+-- what a text begins with, by the byte at a place of it or past its end
+pub begins-byte : (test : ℕ → Bool) → test 0 ≡ false → (s : List ℕ) (i : ℕ)
+    → begins false test (drop i s) ≡ test (getD s i 0)
+begins-byte test e s i = by-place (decLt i (length s))
+  where
+    by-place : Dec (i < length s) → begins false test (drop i s) ≡ test (getD s i 0)
+    by-place (yes inside) = rw (drop-cons s i 0 inside)
+    by-place (no past) =
+        let h : length s ≤ i = omega (arith, past) in
+        rw (drop-of-length-le s {i = i} h, List·getD-eq-default s 0 {n = i} h) (sym e)
+
 -- the sign of a comment, or the end of a line
 abbrev pub endsData : ℕ → Bool
 endsData b = isHash b || eqb b 10
@@ -75,6 +97,21 @@ offset-line s =
       drop-line isDigit refl (dropWhile isBlank s),
       drop-line isBlank refl (dropWhile isDigit (dropWhile isBlank s)),
       data-ends-line (dropWhile isBlank (dropWhile isDigit (dropWhile isBlank s))),
+      take-line isDigit refl (dropWhile isBlank s),
+    )
+
+-- and so may the reader of an expiry
+pub expiry-line : (s : List ℕ)
+    → expiryRead (firstLine s)
+    ≡ cond (begins false isBlank s && eqb (untilEnd (dropWhile isBlank (dropWhile isDigit (dropWhile isBlank s)))) 0)
+    (expiresAt (countRead (takeWhile isDigit (dropWhile isBlank s)))) malformed
+expiry-line s =
+    rw (
+      begins-line isBlank refl s,
+      drop-line isBlank refl s,
+      drop-line isDigit refl (dropWhile isBlank s),
+      drop-line isBlank refl (dropWhile isDigit (dropWhile isBlank s)),
+      length-line (dropWhile isBlank (dropWhile isDigit (dropWhile isBlank s))),
       take-line isDigit refl (dropWhile isBlank s),
     )
 

@@ -2,6 +2,7 @@ pub mod Parts
 pub mod InLine
 pub mod Digits
 pub mod Offsets
+pub mod Expiries
 pub mod LineKinds
 pub mod WholeFile
 pub mod Examples

@@ -7,17 +7,16 @@ use native.Mathlib.Omega.{arith}
 use borrow.Author.Tests.{ne-eqb}
 use lib.Dec.{eqb}
 use lib.ListN.{length, getD, take, drop, length-drop}
-use lib.Seq.{length-take-le}
 use Rattle.refusals.specs.Outcome.{Outcome, answered, refused}
 use Rattle.words.specs.Decimal.{isDigit, countRead}
 use Rattle.texts.specs.Ends.{untilEnd}
 use Rattle.texts.proofs.LineEnds.{passed}
 use Rattle.texts.proofs.FirstLine.{until-within}
 use Rattle.published.specs.LeapSecondsList.{Line, passes, holds, malformed, takeWhile, dropWhile, begins, isBlank, isHash}
-use Rattle.published.specs.LeapSecondsList.{endsInReturn, offsetRead, lineWith, recordAt, lineRead}
+use Rattle.published.specs.LeapSecondsList.{beginsExpiry, endsInReturn, offsetRead, lineWith, recordAt, lineRead}
 use Rattle.published.specs.Places.{firstLine, Passed, in64Bits}
 use Rattle.published.proofs.Parts.{take-here, drop-here}
-use Rattle.published.proofs.InLine.{drop-line, take-line, begins-line, blanks-end}
+use Rattle.published.proofs.InLine.{length-line, drop-line, take-line, begins-line, line-on, begins-byte, blanks-end}
 use Rattle.published.proofs.Digits.{from-zero}
 use Rattle.published.proofs.Offsets.{begins-at, is-read}
 
@@ -32,9 +31,6 @@ line-to s at end e =
 
 pub not-empty : (s : List ℕ) (at : ℕ) → at < length s → (getD s at 0 ≡ 10 → ⊥) → 0 < untilEnd (drop at s)
 not-empty s at inside other = omega (arith, passed s at inside other)
-
-length-line : (s : List ℕ) → length (firstLine s) ≡ untilEnd s
-length-line s = length-take-le (untilEnd s) s (until-within s)
 
 -- ---- what a line is
 either-malformed : (t : Bool) → malformed ≡ cond t malformed malformed
@@ -52,15 +48,26 @@ module _ (s : List ℕ) (at : ℕ) (inside : at < length s) where
   begins-with : (test : ℕ → Bool) → test 10 ≡ false → begins false test line ≡ test (getD s at 0)
   begins-with test e = begins-line test e (drop at s) ∙ begins-at false test s at inside
 
+  -- a line that begins with another byte than `#` is no expiry
+  no-expiry : eqb (getD s at 0) 35 ≡ false → beginsExpiry line ≡ false
+  no-expiry e = rw (begins-with isHash refl, e)
+
   -- a comment
-  module _ (hash : getD s at 0 ≡ 35) where
+  module _ (hash : getD s at 0 ≡ 35) (other : eqb (getD s (at + 1) 0) 64 ≡ false) where
+    first : begins false isHash line ≡ true
+    first = begins-with isHash refl ∙ rw hash
+
+    no-sign : begins false (λ b. eqb b 64) (drop 1 line) ≡ false
+    no-sign =
+        ap (λ (l : List ℕ). begins false (λ b. eqb b 64) (drop 1 l)) (line-on s at inside (λ e. omega (arith, e, hash)))
+        ∙ begins-line (λ b. eqb b 64) refl (drop (at + 1) s)
+        ∙ begins-byte (λ b. eqb b 64) refl s (at + 1) ∙ other
+
     pub comment-passes : endsInReturn line ≡ false → passes ≡ lineRead line
-    comment-passes e =
-        let first : begins false isHash line ≡ true = begins-with isHash refl ∙ rw hash in
-        rw (e, first)
+    comment-passes e = rw (e, first, no-sign)
 
     pub comment-returns : endsInReturn line ≡ true → malformed ≡ lineRead line
-    comment-returns e = rw e
+    comment-returns e = rw (e, first, no-sign)
 
   -- blanks up to `end`
   module _ (other : eqb (getD s at 0) 35 ≡ false) (end : ℕ) (blanks : Passed isBlank s at end) where
@@ -116,7 +123,7 @@ module _ (s : List ℕ) (at : ℕ) (inside : at < length s) where
         sym (data-read ∙ rw (no-number (countRead (takeWhile isDigit (drop at s))) _ e) (sym (either-malformed (endsInReturn line))))
 
     pub data-returns : endsInReturn line ≡ true → malformed ≡ lineRead line
-    data-returns e = rw e
+    data-returns e = rw (no-expiry (ne-eqb (getD s at 0) 35 (not-byte 35 (omega arith))), e)
 
     module _ (ntp i : ℕ) (is : answered ntp ≡ in64Bits (countRead (takeWhile isDigit (drop at s)))) (digits : Passed isDigit s at i) where
       abbrev read : countRead (takeWhile isDigit (drop at s)) ≡ answered ntp

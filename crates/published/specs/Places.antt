@@ -2,6 +2,7 @@
 use mathlib.Core.Path.{_≡_}
 use mathlib.Core.Bool.{Bool, cond}
 use mathlib.Core.List.{List}
+use mathlib.Core.Option.{Option, none, some}
 use Prim.Native.Nat.{ℕ, _+_, _<_, _≤_, _^_}
 use lib.ListN.{length, take, drop}
 use lib.IntN.{natAbs}
@@ -11,7 +12,8 @@ use Rattle.texts.specs.Ends.{untilEnd, NoEndBetween}
 use Rattle.tables.specs.Answers.{takenIn}
 use Rattle.records.specs.Records.{event}
 use Rattle.records.specs.Seconds.{recordIn}
-use Rattle.published.specs.LeapSecondsList.{Line, passes, holds, malformed, takeWhile, dropWhile, offsetRead, lineRead, Reading, reading}
+use Rattle.published.specs.LeapSecondsList.{Line, passes, holds, expires, malformed, takeWhile, dropWhile, offsetRead, lineRead}
+use Rattle.published.specs.LeapSecondsList.{Reading, reading}
 use Rattle.published.specs.declared.ListAnswer.{ListAnswer}
 use Rattle.published.specs.declared.inner.NumberRead.{NumberRead}
 use Rattle.published.specs.declared.inner.NumberRead.the-variants as number
@@ -72,13 +74,19 @@ OffsetEnds s offset.Malformed = Unit {0}
 abbrev pub lineFound : LineRead → Line
 lineFound (line.Passes end) = passes
 lineFound (line.Holds r end) = holds (recordIn r)
+lineFound (line.Expires ntp end) = expires ntp
 lineFound line.Malformed = malformed
 
 -- and where it ends
 abbrev pub LineEnds : List ℕ → ℕ → LineRead → Type 0
 LineEnds s at (line.Passes end) = end ≡ at + untilEnd (drop at s)
 LineEnds s at (line.Holds r end) = (end ≡ at + untilEnd (drop at s)) × (natAbs (event (recordIn r)) < 2 ^ 64)
+LineEnds s at (line.Expires ntp end) = end ≡ at + untilEnd (drop at s)
 LineEnds s at line.Malformed = Unit {0}
+
+-- an expiry that was read, or none
+abbrev pub expiryHeld : Bool → ℕ → Option ℕ
+expiryHeld dated ntp = cond dated (some ntp) none
 
 abbrev pub readingIn : ListAnswer → Reading
 readingIn x = reading (takenIn (x .answer)) (x .line) (x .dropped) (x .table)

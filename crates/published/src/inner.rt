@@ -1,29 +1,23 @@
-// The parts of a list, read in place. Nothing is copied, and each reader goes on where the one before it stopped;
+// The parts of a line, read in place. Nothing is copied, and each reader goes on where the one before it stopped;
 // only the last byte of a line is looked at again, where it may be a carriage return.
+pub mod file;
+
 ghost use mathlib.Core.Path.{_≡_};
 ghost use mathlib.Core.Bool.{true, false, cond};
-ghost use Prim.Native.Nat.{_-_, _≤_, _<_, _^_, min};
+ghost use Prim.Native.Nat.{_+_, _-_, _≤_, _<_, _^_, min};
 ghost use lib.Dec.{eqb};
 ghost use lib.IntN.{natAbs};
 ghost use lib.ListN.{length, getD, take, drop};
 ghost use Rattle.words.specs.Decimal.{isDigit, countRead};
-ghost use Rattle.texts.specs.Lines.{linesOf};
 ghost use Rattle.texts.specs.Ends.{untilEnd};
-ghost use Rattle.tables.specs.Answers.{tableAnswerIn};
 ghost use Rattle.records.specs.Records.{event};
 ghost use Rattle.records.specs.Seconds.{recordIn};
 ghost use Rattle.published.specs.LeapSecondsList.{isBlank, endsInReturn, offsetRead, recordAt, lineRead};
-ghost use Rattle.published.specs.LeapSecondsList.{badList, ofRecords, ofLines};
 ghost use Rattle.published.specs.Places.{firstLine, Passed, digits, ReadTo, numberFound, NumberEnds, offsetFound, OffsetEnds};
-ghost use Rattle.published.specs.Places.{lineFound, LineEnds, readingIn, in64Bits};
-use crate::ListAnswer;
+ghost use Rattle.published.specs.Places.{lineFound, LineEnds, in64Bits};
 use counts::units::LARGEST_COUNT;
 use records::inner::LeapRecord;
 use records::inner::seconds::difference;
-use refusals::Refusal;
-use tables::LeapTable;
-use tables::TableAnswer;
-use tables::Taken;
 use texts::inner::LINE_END;
 use texts::inner::next_end;
 use words::inner::digits::digit;
@@ -36,7 +30,7 @@ const MOST_DIGITS: usize = 20;
 const SAFE_DIGITS: usize = 19;
 
 // NTP seconds up to 1980-01-06, where TAI counts begin.
-const NTP_SECONDS_TO_1980: u64 = 2_524_953_600;
+pub const NTP_SECONDS_TO_1980: u64 = 2_524_953_600;
 
 const LARGEST_OFFSET: u64 = i32::MAX as u64;
 
@@ -52,10 +46,11 @@ pub enum OffsetRead {
     Malformed,
 }
 
-// A comment or a blank line, or a line with a record, and where the line ends.
+// A comment or a blank line, a line with a record, or one with the NTP seconds of the expiry, and where the line ends.
 pub enum LineRead {
     Passes(usize),
     Holds(LeapRecord, usize),
+    Expires(u64, usize),
     Malformed,
 }
 
@@ -204,10 +199,51 @@ fn ends_in_return(s: &[u8], at: usize, end: usize) -> bool
     s[end - 1] == RETURN
 }
 
-// A line from `at` on that begins with the sign of a comment.
+// Whether the byte at a place is `@`; past the end there is none.
+fn is_at_sign(s: &[u8], at: usize) -> bool
+    ensures { λ r. ⌜ r ≡ eqb (getD (now (s .entry)) at 0) 64 ⌝ }
+{
+    if s.len() <= at {
+        return false;
+    }
+    s[at] == b'@'
+}
+
+// A line from `at` on that begins with `#@`: one or more blanks, the NTP seconds, any blanks, and the end of the line.
+fn read_expiry(s: &[u8], at: usize) -> LineRead
+    requires { ⌜ at + 2 ≤ length (now s) ⌝ }
+    requires { ⌜ getD (now s) at 0 ≡ 35 ⌝ }
+    requires { ⌜ getD (now s) (at + 1) 0 ≡ 64 ⌝ }
+    ensures is { λ r. ⌜ lineFound r ≡ lineRead (firstLine (drop at (now (s .entry)))) ⌝ }
+    ensures ends { λ r. ⌜ LineEnds (now (s .entry)) at r ⌝ }
+{
+    let from = at + 2;
+    if from == s.len() {
+        return LineRead::Malformed;
+    }
+    if !is_blank(s[from]) {
+        return LineRead::Malformed;
+    }
+    let start = skip_blanks(s, from);
+    let NumberRead::Number(ntp, after) = read_number(s, start) else {
+        return LineRead::Malformed;
+    };
+    let end = skip_blanks(s, after);
+    if end == s.len() {
+        return LineRead::Expires(ntp, end);
+    }
+    if s[end] == LINE_END {
+        LineRead::Expires(ntp, end)
+    } else {
+        LineRead::Malformed
+    }
+}
+
+// A line from `at` on that begins with the sign of a comment, and not with that of an expiry.
 fn read_comment(s: &[u8], at: usize) -> LineRead
     requires { ⌜ at < length (now s) ⌝ }
     requires { ⌜ getD (now s) at 0 ≡ 35 ⌝ }
+    requires { ⌜ eqb (getD (now s) (at + 1) 0) 64 ≡ false ⌝ }
     ensures is { λ r. ⌜ lineFound r ≡ lineRead (firstLine (drop at (now (s .entry)))) ⌝ }
     ensures ends { λ r. ⌜ LineEnds (now (s .entry)) at r ⌝ }
 {
@@ -260,7 +296,7 @@ fn read_data(s: &[u8], at: usize) -> LineRead
     }
 }
 
-// The line from `at` on, by its first byte.
+// The line from `at` on, by its first byte or two.
 pub fn read_line(s: &[u8], at: usize) -> LineRead
     requires { ⌜ at < length (now s) ⌝ }
     ensures is { λ r. ⌜ lineFound r ≡ lineRead (firstLine (drop at (now (s .entry)))) ⌝ }
@@ -268,6 +304,9 @@ pub fn read_line(s: &[u8], at: usize) -> LineRead
 {
     let b = s[at];
     if b == b'#' {
+        if is_at_sign(s, at + 1) {
+            return read_expiry(s, at);
+        }
         return read_comment(s, at);
     }
     if is_digit(b) {
@@ -275,78 +314,4 @@ pub fn read_line(s: &[u8], at: usize) -> LineRead
     } else {
         read_blanks(s, at)
     }
-}
-
-// A refusal of the form at a line, or at none, with the empty table.
-pub fn refused_at(line: usize) -> ListAnswer
-    ensures { λ r. ⌜ readingIn r ≡ badList line ⌝ }
-{
-    let answer = Taken::Refused(Refusal::BadList);
-    ListAnswer {
-        answer,
-        line,
-        dropped: 0,
-        table: LeapTable::new(),
-    }
-}
-
-// A difference that does not go below 0.
-fn less_or_none(a: usize, b: usize) -> usize
-    ensures { λ r. ⌜ r ≡ a - b ⌝ }
-{
-    if a < b { 0 } else { a - b }
-}
-
-// What is made of a number of records: those that are no entry of the table were dropped.
-fn answer_for(records: usize, made: TableAnswer) -> ListAnswer
-    ensures { λ r. ⌜ readingIn r ≡ ofRecords records (tableAnswerIn made) ⌝ }
-{
-    let answer = made.answer;
-    let table = made.table;
-    let n = table.len;
-    match answer {
-        Taken::Done => ListAnswer {
-            answer: Taken::Done,
-            line: 0,
-            dropped: less_or_none(records, n),
-            table,
-        },
-        Taken::Refused(refusal) => ListAnswer {
-            answer: Taken::Refused(refusal),
-            line: 0,
-            dropped: 0,
-            table,
-        },
-    }
-}
-
-// The table of a list that is not too long.
-pub fn read_lines(s: &[u8]) -> ListAnswer
-    requires { ⌜ length (now s) ≤ 65536 ⌝ }
-    ensures { λ r. ⌜ readingIn r ≡ ofLines (linesOf (now (s .entry))) ⌝ }
-{
-    let mut thresholds = [0u64; 64];
-    let mut offsets = [0i32; 64];
-    let mut seen = records::inner::begin();
-    let mut records: usize = 0;
-    let mut line: usize = 1;
-    let mut at: usize = 0;
-    while at < s.len() {
-        let here = line;
-        let read = read_line(s, at);
-        line += 1;
-        match read {
-            LineRead::Malformed => return refused_at(here),
-            LineRead::Passes(end) => at = end + 1,
-            LineRead::Holds(given, end) => {
-                seen = records::inner::take(&mut thresholds, &mut offsets, seen, given);
-                records += 1;
-                at = end + 1;
-            }
-        }
-    }
-    answer_for(
-        records,
-        records::inner::finish(thresholds, offsets, seen, Refusal::BadList),
-    )
 }

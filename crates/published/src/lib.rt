@@ -25,7 +25,7 @@ pub fn read(bytes: &[u8]) -> ListAnswer
     ensures { λ r. ⌜ readingIn r ≡ listRead (now (bytes .entry)) ⌝ }
 {
     if MOST_BYTES < bytes.len() {
-        return inner::refused_at(0);
+        return inner::file::refused_at(0);
     }
-    inner::read_lines(bytes)
+    inner::file::read_lines(bytes)
 }

@@ -13,7 +13,7 @@ ends-in-return-requires c κs =
     let a = c .before .before .args in
     let s = now (a .s) in
     let pre = c .before .before .pre in (
-      omega (arith, c .next-end .ensures, not-empty s (a .at) (pre .0) (λ e. omega (arith, e, pre .1))),
+      omega (arith, c .next-end .ensures, not-empty s (a .at) (pre .0) (λ e. omega (arith, e, pre .1 .0))),
       omega (arith, c .next-end .ensures, end-within s (a .at) (omega arith)),
     )
 
@@ -23,7 +23,7 @@ returns c =
     let a = n .before .before .args in
     let pre = n .before .before .pre in
     let is = sym (ap endsInReturn (line-to (now (a .s)) (a .at) (n .next-end .result) (n .next-end .ensures))) in
-    (comment-returns (now (a .s)) (a .at) (pre .0) (pre .1) (is ∙ sym (c .before .ends-in-return .ensures) ∙ c .if1 .taken), tt)
+    (comment-returns (now (a .s)) (a .at) (pre .0) (pre .1 .0) (pre .1 .1) (is ∙ sym (c .before .ends-in-return .ensures) ∙ c .if1 .taken), tt)
 
 returns-2 : call.Tie.Need-returns-2
 returns-2 c =
@@ -31,7 +31,7 @@ returns-2 c =
     let a = n .before .before .args in
     let pre = n .before .before .pre in
     let is = sym (ap endsInReturn (line-to (now (a .s)) (a .at) (n .next-end .result) (n .next-end .ensures))) in (
-      comment-passes (now (a .s)) (a .at) (pre .0) (pre .1) (is ∙ sym (c .before .ends-in-return .ensures) ∙ c .if1 .left),
+      comment-passes (now (a .s)) (a .at) (pre .0) (pre .1 .0) (pre .1 .1) (is ∙ sym (c .before .ends-in-return .ensures) ∙ c .if1 .left),
       n .next-end .ensures,
     )
 

@@ -1,39 +1,47 @@
--- `read_lines`. The invariant: the lines before `at` are read, and their records are judged and stored.
+-- `read_lines`. The invariant: the lines before `at` are read, their records are judged and stored, and their expiry is
+-- kept.
 use mathlib.Core.Path.{_≡_, refl, sym, ap, subst, _∙_}
+use mathlib.Core.Bool.{Bool}
 use mathlib.Core.List.{List, [], _∷_, _++_}
 use Prim.Native.Nat.{ℕ, _+_, _-_, _≤_, _<_}
 use native.Mathlib.Omega.{arith}
 use borrow.Author.Needs.{needs}
 use denote.Ref.{now}
-use lib.IntN.{ℤ}
+use lib.IntN.{ℤ, pos}
 use lib.ListN.{length, drop, length-append}
+use mir.Syntax.{w32}
+use mir.Val.{toZ, ofZ}
+use mir.Facts.{toZ-ofZ}
 use Rattle.texts.specs.Ends.{untilEnd}
 use Rattle.tables.specs.Answers.{tableAnswerIn}
-use Rattle.records.specs.Records.{Record}
+use Rattle.records.specs.Records.{Record, tableFrom}
 use Rattle.records.specs.Seconds.{recordIn}
-use Rattle.records.specs.Judged.{Holds}
+use Rattle.records.specs.Judged.{begun, Holds}
 use Rattle.records.specs.declared.inner.Progress.{Progress}
 use Rattle.records.proofs.Kept.{holds-begin}
-use Rattle.published.specs.LeapSecondsList.{ofRecords}
-use Rattle.published.specs.Places.{lineFound, LineEnds}
+use Rattle.published.specs.LeapSecondsList.{expires, lineRead, lastOffset, expirySecond, ofRecords}
+use Rattle.published.specs.Places.{firstLine, lineFound, LineEnds, expiryHeld}
 use Rattle.published.specs.declared.inner.LineRead.the-variants as line
 use Rattle.published.proofs.LineKinds.{end-within}
-use Rattle.published.proofs.WholeFile.{ReadTo, nothing-read, all-read, refused-there, line-passes, line-holds}
-use Rattle.published.proofs.inner.read_lines as call
+use Rattle.published.proofs.WholeFile.{last-judged, ReadTo, nothing-read, all-read, refused-there, refused-again}
+use Rattle.published.proofs.WholeFile.{line-passes, line-holds, line-expires}
+use Rattle.published.proofs.inner.file.read_lines as call
 
-record Inv (s : List ℕ) (thresholds : List ℕ) (offsets : List ℤ) (seen : Progress) (records line at : ℕ) : Type 0 where
+record Inv (s thresholds : List ℕ) (offsets : List ℤ) (seen : Progress) (records : ℕ) (dated : Bool) (expiry line at : ℕ)
+    : Type 0 where
   past : List Record
-  read : ReadTo s past line at
+  read : ReadTo s past dated expiry line at
   held : Holds past thresholds offsets seen
   counted : records ≡ length past
   few : (seen .count < line) × (records < line)
 
 abbrev Inv-loop : call.Tie.InvT-loop
-Inv-loop s thresholds₀ offsets₀ seen₀ records₀ line₀ at₀ thresholds offsets seen records line at =
-    Inv s thresholds offsets seen records line at
+Inv-loop s thresholds₀ offsets₀ seen₀ records₀ dated₀ expiry₀ line₀ at₀ thresholds offsets seen records dated expiry line at =
+    Inv s thresholds offsets seen records dated expiry line at
 
 abbrev μ-loop : call.Tie.MeasureT-loop
-μ-loop s thresholds₀ offsets₀ seen₀ records₀ line₀ at₀ thresholds offsets seen records line at = length s + 1 - at
+μ-loop s thresholds₀ offsets₀ seen₀ records₀ dated₀ expiry₀ line₀ at₀ thresholds offsets seen records dated expiry line at =
+    length s + 1 - at
 
 loop-holds : call.Tie.Need-loop-holds Inv-loop μ-loop
 loop-holds c = record {
@@ -61,7 +69,8 @@ module _ (c : call.Tie.After-read-line Inv-loop μ-loop) where
   short : length s ≤ 65536
   short = loop .before .before .before .pre
 
-  inv : Inv s (loop .loop .thresholds) (loop .loop .offsets) (loop .loop .seen) (loop .loop .records) (loop .loop .line) at
+  inv : Inv s (loop .loop .thresholds) (loop .loop .offsets) (loop .loop .seen) (loop .loop .records) (loop .loop .dated)
+      (loop .loop .expiry) (loop .loop .line) at
   inv = loop .loop .inv
 
 add-line : call.Tie.Need-add-line Inv-loop μ-loop
@@ -151,13 +160,76 @@ loop-again-2 c =
       few = (omega (arith, i .few .0, c .take .ensures .0), omega (arith, i .few .1));
     })
 
+-- ---- an expiry
+module _ (c : call.Tie.After-read3 Inv-loop μ-loop) where
+  abbrev of-expiry : call.Tie.After-read-line Inv-loop μ-loop
+  of-expiry = c .before .before
+
+  abbrev expiry-end : ℕ
+  expiry-end = c .read3 .given .0 .1 .0
+
+  expiry-ends : expiry-end ≡ at of-expiry + untilEnd (drop (at of-expiry) (s of-expiry))
+  expiry-ends = subst (LineEnds (s of-expiry) (at of-expiry)) (c .read3 .given .1) (of-expiry .read-line .ensures .1)
+
+  expiry-within : expiry-end ≤ length (s of-expiry)
+  expiry-within =
+      omega (arith, expiry-ends, end-within (s of-expiry) (at of-expiry) (omega (arith, inside of-expiry)))
+
+  expires-it : expires (c .read3 .given .0 .0) ≡ lineRead (firstLine (drop (at of-expiry) (s of-expiry)))
+  expires-it = sym (ap lineFound (c .read3 .given .1)) ∙ of-expiry .read-line .ensures .0
+
 returns-2 : call.Tie.Need-returns-2 Inv-loop μ-loop
 returns-2 c =
-    let end = c .before .before in
-    let i = end .before .loop .inv in
+    let e = c .before .before .before in
+    let l = of-expiry e in
+    c .refused-at2 .ensures
+    ∙ refused-again (inv l .read) (inside l) (e .read3 .given .0 .0) (expires-it e) (c .before .if1 .taken)
+
+add-at-3 : call.Tie.Need-add-at-3 Inv-loop μ-loop
+add-at-3 c =
+    let e = c .before .before in
+    let h = expiry-within e in let k = short (of-expiry e) in search needs
+
+loop-less-3 : call.Tie.Need-loop-less-3 Inv-loop μ-loop
+loop-less-3 c =
+    let e = c .before .before in
+    omega (arith, expiry-ends e, expiry-within e, inside (of-expiry e))
+
+loop-again-3 : call.Tie.Need-loop-again-3 Inv-loop μ-loop
+loop-again-3 c =
+    let e = c .before .before in
+    let l = of-expiry e in
+    let i = inv l in
+    rw (expiry-ends e) (record {
+      past = i .past;
+      read = line-expires (i .read) (inside l) (e .read3 .given .0 .0) (expires-it e) (c .if1 .left);
+      held = i .held;
+      counted = i .counted;
+      few = (omega (arith, i .few .0), omega (arith, i .few .1));
+    })
+
+-- ---- no line is left
+-- the offset is the sixth field of what has been seen
+last-is : (c : call.Tie.After-struct-told Inv-loop μ-loop)
+    → let a = c .before .before .loop in
+    toZ w32 (ofZ w32 (a .seen .offset)) ≡ lastOffset (pos 0) (a .inv .past)
+last-is c =
+    let a = c .before .before .loop in
+    toZ-ofZ record { sfits = c .struct-told .given .1 .1 .1 .1 .1 .0 .1 }
+    ∙ ap (λ j. j .offset) (a .inv .held .seen) ∙ last-judged begun (a .inv .past)
+
+returns-3 : call.Tie.Need-returns-3 Inv-loop μ-loop
+returns-3 c =
+    let made = c .before in
+    let told = made .before .before in
+    let end = told .before in
+    let a = end .before .loop in
+    let i = a .inv in
+    let rs = i .past in
+    let expiry = made .before .expiry-by .ensures ∙ ap (expirySecond (expiryHeld (a .dated) (a .expiry))) (last-is told) in
     c .answer-for .ensures
-    ∙ ap (λ n. ofRecords n (tableAnswerIn (c .before .finish .result))) (i .counted)
-    ∙ ap (ofRecords (length (i .past))) (c .before .finish .ensures (i .past) (i .held))
+    ∙ ap (λ n. ofRecords n (tableAnswerIn (made .finish .result))) (i .counted)
+    ∙ ap (ofRecords (length rs)) (made .finish .ensures rs (i .held) ∙ ap (λ x. tableFrom 12 x rs) expiry)
     ∙ all-read (i .read) (end .loop-test .left)
 
 pub read-lines-spec : {M : Type 1} → call.Statement.statement M
@@ -183,6 +255,13 @@ read-lines-spec =
     add-at-2
     loop-less-2
     loop-again-2
+    (λ c. search needs)
+    (λ c κs. search needs)
+    returns-2
+    add-at-3
+    loop-less-3
+    loop-again-3
     (λ c κs. search needs)
     (λ c κs. search needs)
-    returns-2)
+    (λ c κs. search needs)
+    returns-3)

@@ -1,6 +1,6 @@
 -- `refused_at`: the table that goes with it is the one with no entry.
 use borrow.Author.Needs.{needs}
-use Rattle.published.proofs.inner.refused_at as call
+use Rattle.published.proofs.inner.file.refused_at as call
 
 returns : call.Tie.Need-returns
 returns c = rw (c .new .ensures)

@@ -5,7 +5,7 @@ use borrow.Author.Tests.{ne-eqb}
 use Rattle.refusals.specs.Number.{numberOf}
 use Rattle.refusals.proofs.Tells.{number-not-zero}
 use Rattle.tables.specs.Answers.{takenIn}
-use Rattle.published.proofs.inner.answer_for as call
+use Rattle.published.proofs.inner.file.answer_for as call
 
 returns : call.Tie.Need-returns
 returns c =
