@@ -10,8 +10,12 @@ use lib.ListN.{length, getD, length-append, length-take}
 use Rattle.words.specs.Decimal.{decimal}
 use Rattle.words.proofs.WayBack.{decimal-length}
 use Rattle.texts.specs.Lines.{linesOf}
-use Rattle.tables.specs.Entries.{Entry, threshold, offset}
-use Rattle.leaplist.specs.Report.{numberAnd, entryLine, entryLines, droppedWord, tableReport}
+use Rattle.civil.specs.Fields.{fieldsAt}
+use Rattle.stamps.specs.Form.{written}
+use Rattle.tables.specs.Entries.{Entry, threshold, offset, currentOffset}
+use Rattle.tables.specs.Slots.{noExpiry}
+use Rattle.leaplist.specs.Report.{numberAnd, utcSecond, entryLine, entryLines, expiresWord, noneWord, expiryLine}
+use Rattle.leaplist.specs.Report.{droppedWord, tableReport}
 use Rattle.leaplist.specs.Report.{allText, quoted, atLine, startOfLine, place, refusalReport}
 
 -- ---- of an accepted file
@@ -38,9 +42,29 @@ one-line-more (f ∷ es) e =
     ap (λ (l : List ℕ). entryLine f ++ l) (one-line-more es e)
     ∙ sym (append-assoc (entryLine f) (entryLines es) (entryLine e))
 
-pub table-short : (es : List Entry) (n : ℕ) → length es ≤ 64 → length (tableReport es n) ≤ 4701
-table-short es n few =
-    omega (arith, length-append (entryLines es) (droppedWord ++ numberAnd n 10), lines-short es, number-short n 10)
+pub expiry-short : (x n : ℕ) → length (expiryLine x n) ≤ 39
+unfolding expiryLine
+expiry-short x n = by-test (eqb x noExpiry)
+  where
+    stamp : List ℕ
+    stamp = written (fieldsAt (utcSecond x n) 0)
+
+    by-test : (t : Bool) → length (expiresWord ++ (cond t noneWord stamp ++ (10 ∷ []))) ≤ 39
+    by-test true = omega arith
+    by-test false = omega (arith, length-append stamp (10 ∷ []))
+
+pub table-short : (es : List Entry) (x n : ℕ) → length es ≤ 64 → length (tableReport es x n) ≤ 4740
+table-short es x n few =
+    let expiry = expiryLine x (natAbs (currentOffset es)) in
+    let dropped = droppedWord ++ numberAnd n 10 in
+    omega (
+      arith,
+      length-append (entryLines es) (expiry ++ dropped),
+      length-append expiry dropped,
+      lines-short es,
+      expiry-short x (natAbs (currentOffset es)),
+      number-short n 10,
+    )
 
 -- ---- of a refused one
 pub quoted-short : (bs : List ℕ) → length (quoted bs) ≤ 4 + length bs

@@ -6,6 +6,7 @@ use Prim.Native.Nat.{ℕ, _≤_}
 use native.Mathlib.Omega.{arith}
 use borrow.Author.Tests.{ltb-false, leb-true, ne-eqb}
 use lib.Dec.{eqb, leb, ltb}
+use lib.IntN.{pos}
 use lib.ListN.{length, length-take}
 use Rattle.refusals.specs.Number.{numberOf}
 use Rattle.refusals.specs.declared.Refusal.{Refusal}
@@ -15,8 +16,10 @@ use Rattle.tables.specs.Answers.{takenIn}
 use Rattle.tables.specs.Entries.{valid}
 use Rattle.tables.specs.Slots.{paired, entriesOf, tableOf, validTable}
 use Rattle.tables.specs.declared.LeapTable.{LeapTable}
+use Rattle.records.specs.Records.{tableFrom}
 use Rattle.records.proofs.KeptValid.{made-valid}
-use Rattle.published.specs.LeapSecondsList.{Reading, badList, firstMalformed, recordsIn, ofLines, listRead}
+use Rattle.published.specs.LeapSecondsList.{firstMalformed, recordsIn, firstExpiry, lastOffset, expirySecond}
+use Rattle.published.specs.LeapSecondsList.{Reading, badList, ofLines, listRead}
 use Rattle.published.specs.Places.{readingIn}
 use Rattle.published.specs.declared.ListAnswer.{ListAnswer}
 use Rattle.lines.specs.OutcomeLine.{PutsWithRoom}
@@ -41,11 +44,14 @@ either false x y l m = m
 few-entries : (bs : List ℕ) → Few (listRead bs)
 few-entries bs =
     let ls = linesOf bs in
+    let rs = recordsIn ls in
+    let expiry = expirySecond (firstExpiry ls) (lastOffset (pos 0) rs) in
     either (ltb 65_536 (length bs)) _ _ (omega arith)
-    (either (eqb (firstMalformed 1 ls) 0) _ _ (valid-few _ (made-valid 12 (recordsIn ls) (omega arith))) (omega arith))
+    (either (eqb (firstMalformed false 1 ls) 0) _ _ (valid-few (tableFrom 12 expiry rs .1) (made-valid 12 expiry rs (omega arith)))
+    (omega arith))
 
--- 64 lines of 73 bytes and one of 29; a refusal has fewer
-pub report-short : (bs : List ℕ) → length (report bs) ≤ 4701
+-- 64 lines of 73 bytes, one of 39 and one of 29; a refusal has fewer
+pub report-short : (bs : List ℕ) → length (report bs) ≤ 4740
 unfolding report
 report-short bs = by-number (eqb (r .number) 0)
   where
@@ -53,26 +59,26 @@ report-short bs = by-number (eqb (r .number) 0)
     r = listRead bs
 
     by-number : (t : Bool)
-        → length (cond t (tableReport (entriesOf (r .table)) (r .dropped)) (refusalReport (r .number) (r .line) bs)) ≤ 4701
+        → length (cond t (tableReport (entriesOf (r .table)) (r .table .expiry) (r .dropped)) (refusalReport (r .number) (r .line) bs)) ≤ 4740
     by-number true =
         let slots = length-take (r .table .len) (paired (r .table .thresholds) (r .table .offsets)) in
-        table-short (entriesOf (r .table)) (r .dropped) (omega (arith, few-entries bs, slots))
+        table-short (entriesOf (r .table)) (r .table .expiry) (r .dropped) (omega (arith, few-entries bs, slots))
     by-number false = omega (arith, refusal-short (r .number) (r .line) bs)
 
 -- what is written has room
-pub made-fits : (bs out out′ : List ℕ) (made : ℕ) → PutsWithRoom 4701 (report bs) out out′ made → made ≤ length out
-made-fits bs out out′ made put = by-room (ltb (length out) 4701) refl (put .0)
+pub made-fits : (bs out out′ : List ℕ) (made : ℕ) → PutsWithRoom 4740 (report bs) out out′ made → made ≤ length out
+made-fits bs out out′ made put = by-room (ltb (length out) 4740) refl (put .0)
   where
-    by-room : (t : Bool) → ltb (length out) 4701 ≡ t → made ≡ length (cond t [] (report bs)) → made ≤ length out
+    by-room : (t : Bool) → ltb (length out) 4740 ≡ t → made ≡ length (cond t [] (report bs)) → made ≤ length out
     by-room true e is = omega (arith, is)
-    by-room false e is = omega (arith, is, ltb-false (length out) 4701 e, report-short bs)
+    by-room false e is = omega (arith, is, ltb-false (length out) 4740 e, report-short bs)
 
 -- ---- the report by what the reader answers
 module _ (bs : List ℕ) (x : ListAnswer) (is : readingIn x ≡ listRead bs) where
   pub few-in-answer : x .table .len ≤ 64
   few-in-answer = subst Few (sym is) (few-entries bs)
 
-  pub report-accepted : takenIn (x .answer) ≡ 0 → report bs ≡ tableReport (entriesOf (x .table)) (x .dropped)
+  pub report-accepted : takenIn (x .answer) ≡ 0 → report bs ≡ tableReport (entriesOf (x .table)) (x .table .expiry) (x .dropped)
   unfolding report
   report-accepted z = ap (reportOf bs) (sym is) ∙ rw z
 

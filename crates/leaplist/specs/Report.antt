@@ -9,8 +9,8 @@ use Rattle.counts.specs.Units.{second}
 use Rattle.civil.specs.Fields.{fieldsAt}
 use Rattle.words.specs.Decimal.{decimal}
 use Rattle.texts.specs.Lines.{linesOf}
-use Rattle.tables.specs.Entries.{Entry, threshold, offset}
-use Rattle.tables.specs.Slots.{entriesOf}
+use Rattle.tables.specs.Entries.{Entry, threshold, offset, currentOffset}
+use Rattle.tables.specs.Slots.{entriesOf, noExpiry}
 use Rattle.stamps.specs.Form.{written}
 use Rattle.lines.specs.OutcomeLine.{refusedWord}
 use Rattle.published.specs.LeapSecondsList.{Reading, listRead}
@@ -20,7 +20,7 @@ abbrev pub numberAnd : ℕ → ℕ → List ℕ
 numberAnd n mark = decimal n ++ (mark ∷ [])
 
 -- ---- a file that is accepted
--- the UTC second from which an entry is in force, counted from 1972-01-01: 252,892,800 seconds before 1980-01-06
+-- the UTC second at a TAI count by an offset, counted from 1972-01-01: 252,892,800 seconds before 1980-01-06
 abbrev pub utcSecond : ℕ → ℕ → ℕ
 utcSecond t n = t / second + 252_892_800 - n
 
@@ -34,13 +34,27 @@ unfoldable pub entryLines : List Entry → List ℕ
 entryLines [] = []
 entryLines (e ∷ es) = entryLine e ++ entryLines es
 
+-- the bytes of `expires `
+abbrev pub expiresWord : List ℕ
+expiresWord = 101 ∷ 120 ∷ 112 ∷ 105 ∷ 114 ∷ 101 ∷ 115 ∷ 32 ∷ []
+
+-- the bytes of `none`
+abbrev pub noneWord : List ℕ
+noneWord = 110 ∷ 111 ∷ 110 ∷ 101 ∷ []
+
+-- the date and time of an expiry by an offset without a sign
+unfoldable pub expiryLine : ℕ → ℕ → List ℕ
+expiryLine expiry n =
+    expiresWord ++ (cond (eqb expiry noExpiry) noneWord (written (fieldsAt (utcSecond expiry n) 0)) ++ (10 ∷ []))
+
 -- the bytes of `dropped `
 abbrev pub droppedWord : List ℕ
 droppedWord = 100 ∷ 114 ∷ 111 ∷ 112 ∷ 112 ∷ 101 ∷ 100 ∷ 32 ∷ []
 
--- the entries, and how many data lines were dropped before the first of them
-abbrev pub tableReport : List Entry → ℕ → List ℕ
-tableReport es dropped = entryLines es ++ (droppedWord ++ numberAnd dropped 10)
+-- the entries, the expiry by the last offset, and how many data lines were dropped before the first entry
+abbrev pub tableReport : List Entry → ℕ → ℕ → List ℕ
+tableReport es expiry dropped =
+    entryLines es ++ (expiryLine expiry (natAbs (currentOffset es)) ++ (droppedWord ++ numberAnd dropped 10))
 
 -- ---- a file that is refused
 -- a tab, or a byte from the space to `~`
@@ -73,7 +87,7 @@ refusalReport number k bs = refusedWord ++ (decimal number ++ place k bs)
 -- ---- any file
 abbrev pub reportOf : List ℕ → Reading → List ℕ
 reportOf bs r =
-    cond (eqb (r .number) 0) (tableReport (entriesOf (r .table)) (r .dropped))
+    cond (eqb (r .number) 0) (tableReport (entriesOf (r .table)) (r .table .expiry) (r .dropped))
     (refusalReport (r .number) (r .line) bs)
 
 unfoldable pub report : List ℕ → List ℕ

@@ -1,5 +1,5 @@
-// Reads a leap-seconds.list and writes the table that it makes: a line for each entry, and how many of the file's data
-// lines were dropped. Where it makes none, one line says why.
+// Reads a leap-seconds.list and writes the table that it makes: a line for each entry, the expiry, and how many of the
+// file's data lines were dropped. Where it makes none, one line says why.
 mod inner;
 
 ghost use Rattle.lines.specs.OutcomeLine.{PutsWithRoom};
@@ -14,13 +14,13 @@ use lines::inner::streams::write_out;
 use published::MOST_BYTES;
 use tables::Taken;
 
-// The longest report: 64 lines of at most 73 bytes, and one of at most 29.
-const LONGEST_REPORT: usize = 64 * 73 + 29;
+// The longest report: 64 lines of at most 73 bytes, one of at most 39, and one of at most 29.
+const LONGEST_REPORT: usize = 64 * 73 + 39 + 29;
 
 // Writes the report on the bytes of a file, and returns its length. Writes nothing where there is no room for the
 // longest report.
 pub fn report(bytes: &[u8], out: &mut [u8]) -> usize
-    ensures { λ r. ⌜ PutsWithRoom 4701 (report (now (bytes .entry))) (now (out .entry)) (now (out .exit)) r ⌝ }
+    ensures { λ r. ⌜ PutsWithRoom 4740 (report (now (bytes .entry))) (now (out .entry)) (now (out .exit)) r ⌝ }
 {
     if out.len() < LONGEST_REPORT {
         return 0;

@@ -1,15 +1,17 @@
 // The lines of a report, written at a place of a slice. Each function returns where its bytes end.
 ghost use mathlib.Core.Path.{_≡_};
+ghost use mathlib.Core.Bool.{cond};
 ghost use mathlib.Core.List.{_++_};
-ghost use Prim.Native.Nat.{_+_, _*_, _≤_, _<_};
-ghost use lib.IntN.{natAbs};
-ghost use lib.ListN.{length};
+ghost use Prim.Native.Nat.{_+_, _*_, _-_, _≤_, _<_};
+ghost use lib.Dec.{eqb};
+ghost use lib.IntN.{pos, natAbs};
+ghost use lib.ListN.{length, getD};
 ghost use Rattle.refusals.specs.Number.{numberOf};
 ghost use Rattle.tables.specs.Entries.{entry};
 ghost use Rattle.tables.specs.Slots.{slots, entriesOf};
 ghost use Rattle.lines.specs.OutcomeLine.{Puts};
 ghost use Rattle.leaplist.specs.Report.{numberAnd, utcSecond, entryLine, entryLines};
-ghost use Rattle.leaplist.specs.Report.{droppedWord, tableReport, quoted, place, refusalReport};
+ghost use Rattle.leaplist.specs.Report.{expiryLine, droppedWord, tableReport, quoted, place, refusalReport};
 ghost use Rattle.leaplist.specs.Writing.{PutsAt};
 use crate::inner::quote::is_text;
 use crate::inner::quote::start_of_line;
@@ -19,6 +21,8 @@ use counts::units::NANOS_PER_SECOND;
 use lines::inner::put::put_bytes;
 use refusals::Refusal;
 use tables::LeapTable;
+use tables::NO_EXPIRY;
+use tables::inner::OFFSET_OF_NO_ENTRY;
 use texts::inner::LINE_END;
 use words::inner::digits::put_count;
 
@@ -83,6 +87,32 @@ fn put_entries(thresholds: &[u64], offsets: &[i32], n: usize, out: &mut [u8]) ->
     end
 }
 
+// The size of the last of the first `n` offsets; that of no entry where `n` is 0.
+fn last_size(offsets: &[i32], n: usize) -> u64
+    requires { ⌜ n ≤ length (now offsets) ⌝ }
+    ensures { λ r. ⌜ r ≡ natAbs (cond (eqb n 0) (pos 19) (getD (now (offsets .entry)) (n - 1) (pos 0))) ⌝ }
+{
+    if n == 0 {
+        return size_of(OFFSET_OF_NO_ENTRY);
+    }
+    size_of(offsets[n - 1])
+}
+
+// The line of the expiry, by an offset: 8 bytes for the word, at most 30 for the date and time, and the line end.
+fn put_expiry(out: &mut [u8], at: usize, expiry: u64, offset: u64) -> usize
+    requires { ⌜ at + 39 ≤ length (now out) ⌝ }
+    ensures { λ r. ⌜ PutsAt at (expiryLine expiry offset) (now (out .entry)) (now (out .exit)) r ⌝ }
+{
+    put_bytes(out, at, b"expires ");
+    if expiry == NO_EXPIRY {
+        put_bytes(out, at + 8, b"none\n");
+        return at + 13;
+    }
+    stamps::inner::put(out, at + 8, fields_at(utc_second(expiry, offset), 0));
+    out[at + 38] = LINE_END;
+    at + 39
+}
+
 // How many data lines were dropped.
 fn put_dropped(out: &mut [u8], at: usize, n: u64) -> usize
     requires { ⌜ at + 29 ≤ length (now out) ⌝ }
@@ -92,16 +122,19 @@ fn put_dropped(out: &mut [u8], at: usize, n: u64) -> usize
     put_number_and(out, at + 8, n, LINE_END)
 }
 
-// The table of a file, and how many data lines were dropped.
+// The table of a file, its expiry, and how many data lines were dropped.
 pub fn put_table(table: LeapTable, dropped: usize, out: &mut [u8]) -> usize
     requires { ⌜ table .len ≤ 64 ⌝ }
-    requires { ⌜ 4701 ≤ length (now out) ⌝ }
-    ensures { λ r. ⌜ Puts (tableReport (entriesOf table) dropped) (now (out .entry)) (now (out .exit)) r ⌝ }
+    requires { ⌜ 4740 ≤ length (now out) ⌝ }
+    ensures { λ r. ⌜ Puts (tableReport (entriesOf table) (table .expiry) dropped)
+        (now (out .entry)) (now (out .exit)) r ⌝ }
 {
     let thresholds = table.thresholds;
     let offsets = table.offsets;
     let n = table.len;
-    let end = put_entries(&thresholds, &offsets, n, out);
+    let entries_end = put_entries(&thresholds, &offsets, n, out);
+    let last = last_size(&offsets, n);
+    let end = put_expiry(out, entries_end, table.expiry, last);
     put_dropped(out, end, dropped as u64)
 }
 
