@@ -509,6 +509,7 @@ uint32_t plaitgate_builtin_gps_as_unix_seconds(uint64_t gps, int64_t *seconds);
  *   bytes   0 to   7  the number of entries
  *   bytes   8 to 519  64 thresholds of 8 bytes
  *   bytes 520 to 775  64 offsets of 4 bytes, in two's complement
+ *   bytes 776 to 783  the expiry
  * The entries are the first thresholds and offsets, as many as that number; a table made by a call here has zeros in
  * the others. Any bytes may be passed as an image. Where they are not PLAITGATE_IMAGE_BYTES, or hold no valid table,
  * each call that reads a table refuses with 8, whatever its other inputs.
@@ -517,20 +518,27 @@ uint32_t plaitgate_builtin_gps_as_unix_seconds(uint64_t gps, int64_t *seconds);
  * are that many, and that no two of the places passed to one call overlap: images, lists of entries and places of
  * results. The pointer need not be aligned, and must not be null, for no bytes too. What is said to be an
  * image as it was has not been written to.
+ *
+ * A table can go stale. Its expiry is the TAI count from which on leap seconds may be missing in it;
+ * 18446744073709551615 means that it has none, as any table that a call here makes without a file. Each call that
+ * looks up or converts by a table says in its last result, `stale`, whether the table has expired: 1 exactly if there
+ * is an expiry and the TAI count that was looked up last is at or past it, else 0, and 0 on a refusal. Where it is 1 a
+ * rack lights its lamp, fetches a new file, and goes on stamping: the count is as good as the table, in which a leap
+ * second that was announced after the file was made is missing. The expiry never changes a count.
  */
-#define PLAITGATE_IMAGE_BYTES 776
+#define PLAITGATE_IMAGE_BYTES 784
 
 /* The bytes of one entry in a list of entries: 8 of the threshold, then 4 of the offset, each low byte first. */
 #define PLAITGATE_ENTRY_BYTES 12
 
-/* Writes the image of the table with no entry. Refuses with 8 where there are not PLAITGATE_IMAGE_BYTES bytes, and
-   leaves them as they were; what the bytes hold does not matter. */
+/* Writes the image of the table with no entry and no expiry. Refuses with 8 where there are not PLAITGATE_IMAGE_BYTES
+   bytes, and leaves them as they were; what the bytes hold does not matter. */
 uint32_t plaitgate_table_new(uint8_t *image, size_t image_bytes);
 
-/* Writes the image of the built-in table. Refuses as plaitgate_table_new. */
+/* Writes the image of the built-in table, which has no expiry. Refuses as plaitgate_table_new. */
 uint32_t plaitgate_table_from_builtin(uint8_t *image, size_t image_bytes);
 
-/* Writes the image of the table that has the entries of a list. Refuses with 8 where there are not
+/* Writes the image of the table that has the entries of a list, and no expiry. Refuses with 8 where there are not
    PLAITGATE_IMAGE_BYTES bytes for the image, and leaves them as they were. Else refuses with 8 where the list is no
    whole number of entries, by 6 where it has none, with 5 where it has more than 64; then for the first entry that
    cannot follow the one before it: with 3 where its threshold is not above that one's, with 7 where that one's offset
@@ -539,27 +547,30 @@ uint32_t plaitgate_table_from_builtin(uint8_t *image, size_t image_bytes);
 uint32_t plaitgate_table_from_entries(const uint8_t *entries, size_t entries_bytes, uint8_t *image,
                                       size_t image_bytes);
 
-/* Reads a leap-seconds.list as the IERS publishes it, the bytes of the whole file, and writes the image of its table.
-   A line that begins with # is a comment; a line of blanks (spaces and tabs) or of nothing is passed over; every other
-   line is the NTP second at which an offset begins, blanks, and the offset, and may end with blanks and a comment.
-   The first line with the offset 19 becomes the entry (0, 19); lines before it are checked and dropped; each line after
-   it becomes an entry, whose threshold is its NTP second less 2524953600 s, plus the offset. `line` is the number of
-   the first malformed line, from 1 on with comments and blank lines counted; it is 0 where no line is malformed, and
-   where the file is too long to be read. Lines end with LF; a line that ends with CR is malformed, so that a file with
-   CR LF is refused at line 1.
+/* Reads a leap-seconds.list as the IERS publishes it, the bytes of the whole file, and writes the image of its table. A
+   line that begins with #@ is the file's expiry: #@, blanks (spaces and tabs), an NTP second, and blanks or none. Any
+   other line that begins with # is a comment; a line of blanks or of nothing is passed over; every other line is the
+   NTP second at which an offset begins, blanks, and the offset, and may end with blanks and a comment. The first line
+   with the offset 19 becomes the entry (0, 19); lines before it are checked and dropped; each line after it becomes an
+   entry, whose threshold is its NTP second less 2524953600 s, plus the offset. The table's expiry is the NTP second of
+   the #@ line less 2524953600 s, plus the offset of the last line that has one; a file without a #@ line gives a table
+   without an expiry. `line` is the number of the first malformed line, from 1 on with comments and blank lines counted;
+   it is 0 where no line is malformed, and where the file is too long to be read. A second #@ line is malformed. Lines
+   end with LF; a line that ends with CR is malformed, so that a file with CR LF is refused at line 1.
    Refuses with 8 where there are not PLAITGATE_IMAGE_BYTES bytes for the image, and leaves them as they were. Else
    refuses, in this order: with 12 where there are more than 65536 bytes, where a line is malformed, or where lines have
-   offsets and none is 19; with 6 where no line has an offset; with 1 where a threshold is above 64 bits of nanoseconds;
-   with 5 where there are more than 64 entries; then for the first line that cannot follow the one before it, as
-   plaitgate_table_from_entries, where lines up to the first 19 are compared by their NTP seconds. On these refusals the
-   image is that of the table with no entry. */
+   offsets and none is 19; with 6 where no line has an offset; with 1 where a threshold is above 64 bits of nanoseconds,
+   and where the expiry is below 0 or above them; with 5 where there are more than 64 entries; then for the first line
+   that cannot follow the one before it, as plaitgate_table_from_entries, where lines up to the first 19 are compared by
+   their NTP seconds. On these refusals the image is that of the table with no entry. */
 uint32_t plaitgate_read_leap_list(const uint8_t *list, size_t list_bytes, uint8_t *image, size_t image_bytes,
                                   uint64_t *line);
 
 /* Joins an entry to the table in an image, at its end; a table with no entry takes any. Refuses with 8 where the image
    holds no valid table, with 5 where it has 64 entries, with 3 where the threshold is not above the last, with 7 where
    the last offset is 2147483647, with 4 where the offset is not one more than the last, in this order. On a refusal the
-   image is as it was, else it has changed in its number of entries and in the slot after the last entry. */
+   image is as it was, else it has changed in its number of entries and in the slot after the last entry; the expiry
+   stays. */
 uint32_t plaitgate_table_try_extend(uint8_t *image, size_t image_bytes, uint64_t tai_nanos, int32_t tai_minus_utc);
 
 /* The threshold of a leap-second event, for an entry with the offset that begins then. The date is the UTC day that
@@ -585,12 +596,21 @@ uint32_t plaitgate_table_entry_at(const uint8_t *image, size_t image_bytes, uint
    Refuses with 8. */
 uint32_t plaitgate_table_last_update(const uint8_t *image, size_t image_bytes, uint8_t *found, uint64_t *tai);
 
+/* The expiry, and found 1; where the table has none there is nothing, and both results are 0. Refuses with 8. */
+uint32_t plaitgate_table_expiry(const uint8_t *image, size_t image_bytes, uint8_t *found, uint64_t *tai);
+
+/* Gives the table in an image this expiry in place of its own; 18446744073709551615 takes the expiry away. Refuses with
+   8, and the image is as it was; else it has changed in its expiry alone. */
+uint32_t plaitgate_table_set_expiry(uint8_t *image, size_t image_bytes, uint64_t tai);
+
 /* The last offset, or 19 where the table has no entry. Refuses with 8. */
 uint32_t plaitgate_table_current_tai_minus_utc(const uint8_t *image, size_t image_bytes, int32_t *offset);
 
 /* The offset in force at a TAI count: that of the last entry whose threshold is not above it, the first offset before
-   the first threshold, 19 where the table has no entry. Refuses with 8. */
-uint32_t plaitgate_table_tai_minus_utc_at(const uint8_t *image, size_t image_bytes, uint64_t tai, int32_t *offset);
+   the first threshold, 19 where the table has no entry. `stale`: whether the table has expired at that count. Refuses
+   with 8. */
+uint32_t plaitgate_table_tai_minus_utc_at(const uint8_t *image, size_t image_bytes, uint64_t tai, int32_t *offset,
+                                          uint8_t *stale);
 
 /* ---- Lent lists of entries ---- */
 
@@ -621,37 +641,46 @@ uint32_t plaitgate_list_last_update(const uint8_t *entries, size_t entries_bytes
 uint32_t plaitgate_list_current_tai_minus_utc(const uint8_t *entries, size_t entries_bytes, int32_t *offset);
 
 /* The offset in force at a TAI count: that of the last entry whose threshold is not above it, the first offset before
-   the first threshold, 19 where the list has no entry. Refuses with 8. */
-uint32_t plaitgate_list_tai_minus_utc_at(const uint8_t *entries, size_t entries_bytes, uint64_t tai, int32_t *offset);
+   the first threshold, 19 where the list has no entry. `stale` is 0: a list has no expiry. Refuses with 8. */
+uint32_t plaitgate_list_tai_minus_utc_at(const uint8_t *entries, size_t entries_bytes, uint64_t tai, int32_t *offset,
+                                         uint8_t *stale);
 
 /* ---- Conversions by a table ---- */
 
-/* The UTC count of a GPS count: by the offset n in force 19 s on, n - 19 s less and 252892800 s more. Refuses with 8
-   where the image holds no valid table, with 1 where the GPS count and 19 s is above 64 bits, with 9 where n is below
-   -2147483629, with 1 where the UTC count is below 0 or above 64 bits, in this order. */
-uint32_t plaitgate_table_gps_to_utc(uint64_t gps, const uint8_t *image, size_t image_bytes, uint64_t *utc);
+/* The UTC count of a GPS count: by the offset n in force 19 s on, n - 19 s less and 252892800 s more. `stale`: whether
+   the table has expired 19 s on. Refuses with 8 where the image holds no valid table, with 1 where the GPS count and 19
+   s is above 64 bits, with 9 where n is below -2147483629, with 1 where the UTC count is below 0 or above 64 bits, in
+   this order. */
+uint32_t plaitgate_table_gps_to_utc(uint64_t gps, const uint8_t *image, size_t image_bytes, uint64_t *utc,
+                                    uint8_t *stale);
 
 /* The GPS count of a UTC count: by an offset n, n - 19 s more and 252892800 s less. To find n, the offset in force is
-   looked up at a, which is UTC - 252892800 s + 19 s, or 0 where that is no count; then n is the offset in force at UTC
-   - 252892800 s + that offset in seconds, or at a where that is no count. Refuses with 8 where the image holds no valid
-   table, with 9 where n is below -2147483629, with 1 where the GPS count is below 0 or above 64 bits, in this order. */
-uint32_t plaitgate_table_utc_to_gps(uint64_t utc, const uint8_t *image, size_t image_bytes, uint64_t *gps);
+   looked up at a, which is UTC - 252892800 s + 19 s, or 0 where that is no count; then n is the offset in force at b,
+   which is UTC - 252892800 s + that offset in seconds, or a where that is no count. `stale`: whether the table has
+   expired at b. Refuses with 8 where the image holds no valid table, with 9 where n is below -2147483629, with 1 where
+   the GPS count is below 0 or above 64 bits, in this order. */
+uint32_t plaitgate_table_utc_to_gps(uint64_t utc, const uint8_t *image, size_t image_bytes, uint64_t *gps,
+                                    uint8_t *stale);
 
-/* The GPS count of a GLONASS count, by way of UTC. Refuses with 8, then as plaitgate_glonass_to_utc, then as
-   plaitgate_table_utc_to_gps. */
-uint32_t plaitgate_table_glonass_to_gps(uint64_t glonass, const uint8_t *image, size_t image_bytes, uint64_t *gps);
+/* The GPS count of a GLONASS count, by way of UTC. `stale`: as plaitgate_table_utc_to_gps. Refuses with 8, then as
+   plaitgate_glonass_to_utc, then as plaitgate_table_utc_to_gps. */
+uint32_t plaitgate_table_glonass_to_gps(uint64_t glonass, const uint8_t *image, size_t image_bytes, uint64_t *gps,
+                                        uint8_t *stale);
 
-/* The GLONASS count of a GPS count, by way of UTC. Refuses as plaitgate_table_gps_to_utc, then as
-   plaitgate_utc_to_glonass. */
-uint32_t plaitgate_table_gps_to_glonass(uint64_t gps, const uint8_t *image, size_t image_bytes, uint64_t *glonass);
+/* The GLONASS count of a GPS count, by way of UTC. `stale`: as plaitgate_table_gps_to_utc. Refuses as
+   plaitgate_table_gps_to_utc, then as plaitgate_utc_to_glonass. */
+uint32_t plaitgate_table_gps_to_glonass(uint64_t gps, const uint8_t *image, size_t image_bytes, uint64_t *glonass,
+                                        uint8_t *stale);
 
-/* The GPS count of seconds since 1970-01-01, by way of UTC. Refuses with 8, then as
-   plaitgate_utc_from_unix_seconds, then as plaitgate_table_utc_to_gps. */
-uint32_t plaitgate_table_gps_from_unix_seconds(int64_t seconds, const uint8_t *image, size_t image_bytes, uint64_t *gps);
+/* The GPS count of seconds since 1970-01-01, by way of UTC. `stale`: as plaitgate_table_utc_to_gps. Refuses with 8,
+   then as plaitgate_utc_from_unix_seconds, then as plaitgate_table_utc_to_gps. */
+uint32_t plaitgate_table_gps_from_unix_seconds(int64_t seconds, const uint8_t *image, size_t image_bytes, uint64_t *gps,
+                                               uint8_t *stale);
 
-/* The whole seconds since 1970-01-01 of a GPS count, by way of UTC, rounded down. Refuses as
-   plaitgate_table_gps_to_utc. */
-uint32_t plaitgate_table_gps_as_unix_seconds(uint64_t gps, const uint8_t *image, size_t image_bytes, int64_t *seconds);
+/* The whole seconds since 1970-01-01 of a GPS count, by way of UTC, rounded down. `stale`: as
+   plaitgate_table_gps_to_utc. Refuses as plaitgate_table_gps_to_utc. */
+uint32_t plaitgate_table_gps_as_unix_seconds(uint64_t gps, const uint8_t *image, size_t image_bytes, int64_t *seconds,
+                                             uint8_t *stale);
 
 /* shifted scales, by tools/write-scales */
 
@@ -681,16 +710,19 @@ uint32_t plaitgate_builtin_galileo_to_glonass(uint64_t galileo, uint64_t *glonas
    as plaitgate_builtin_utc_to_galileo. */
 uint32_t plaitgate_builtin_glonass_to_galileo(uint64_t glonass, uint64_t *galileo);
 
-/* The same four by the table in an image. Each refuses with 8 first where the image holds no valid table. From UTC and
-   from GLONASS, a table that is not regular gives no more than the first GPS count of a UTC count, and refuses with 1
-   where that is before the epoch of Galileo. (A table is regular if it begins (0, 19) and each threshold after the
-   first is at least 86400 s above the one before.) */
-uint32_t plaitgate_table_galileo_to_utc(uint64_t galileo, const uint8_t *image, size_t image_bytes, uint64_t *utc);
-uint32_t plaitgate_table_utc_to_galileo(uint64_t utc, const uint8_t *image, size_t image_bytes, uint64_t *galileo);
+/* The same four by the table in an image. Each refuses with 8 first where the image holds no valid table. `stale`: as
+   the conversion by way of GPS, or whether the table has expired 19 s after the later GPS count, where that is taken.
+   From UTC and from GLONASS, a table that is not regular gives no more than the first GPS count of a UTC count, and
+   refuses with 1 where that is before the epoch of Galileo. (A table is regular if it begins (0, 19) and each threshold
+   after the first is at least 86400 s above the one before.) */
+uint32_t plaitgate_table_galileo_to_utc(uint64_t galileo, const uint8_t *image, size_t image_bytes, uint64_t *utc,
+    uint8_t *stale);
+uint32_t plaitgate_table_utc_to_galileo(uint64_t utc, const uint8_t *image, size_t image_bytes, uint64_t *galileo,
+    uint8_t *stale);
 uint32_t plaitgate_table_galileo_to_glonass(uint64_t galileo, const uint8_t *image, size_t image_bytes,
-    uint64_t *glonass);
+    uint64_t *glonass, uint8_t *stale);
 uint32_t plaitgate_table_glonass_to_galileo(uint64_t glonass, const uint8_t *image, size_t image_bytes,
-    uint64_t *galileo);
+    uint64_t *galileo, uint8_t *stale);
 
 /* ---- BeiDou to GPS, UTC and GLONASS, and back ---- */
 
@@ -718,17 +750,19 @@ uint32_t plaitgate_builtin_beidou_to_glonass(uint64_t beidou, uint64_t *glonass)
    as plaitgate_builtin_utc_to_beidou. */
 uint32_t plaitgate_builtin_glonass_to_beidou(uint64_t glonass, uint64_t *beidou);
 
-/* The same four by the table in an image. Each refuses with 8 first where the image holds no valid table. From UTC and
-   from GLONASS, a table that is not regular gives no more than the first GPS count of a UTC count, and refuses with 1
-   where that is before the epoch of BeiDou. (A table is regular if it begins (0, 19) and each threshold after the
-   first is at least 86400 s above the one before.) */
-uint32_t plaitgate_table_beidou_to_utc(uint64_t beidou, const uint8_t *image, size_t image_bytes, uint64_t *utc);
-uint32_t plaitgate_table_utc_to_beidou(uint64_t utc, const uint8_t *image, size_t image_bytes, uint64_t *beidou);
+/* The same four by the table in an image. Each refuses with 8 first where the image holds no valid table. `stale`: as
+   the conversion by way of GPS, or whether the table has expired 19 s after the later GPS count, where that is taken.
+   From UTC and from GLONASS, a table that is not regular gives no more than the first GPS count of a UTC count, and
+   refuses with 1 where that is before the epoch of BeiDou. (A table is regular if it begins (0, 19) and each threshold
+   after the first is at least 86400 s above the one before.) */
+uint32_t plaitgate_table_beidou_to_utc(uint64_t beidou, const uint8_t *image, size_t image_bytes, uint64_t *utc,
+    uint8_t *stale);
+uint32_t plaitgate_table_utc_to_beidou(uint64_t utc, const uint8_t *image, size_t image_bytes, uint64_t *beidou,
+    uint8_t *stale);
 uint32_t plaitgate_table_beidou_to_glonass(uint64_t beidou, const uint8_t *image, size_t image_bytes,
-    uint64_t *glonass);
+    uint64_t *glonass, uint8_t *stale);
 uint32_t plaitgate_table_glonass_to_beidou(uint64_t glonass, const uint8_t *image, size_t image_bytes,
-    uint64_t *beidou);
-
+    uint64_t *beidou, uint8_t *stale);
 /* end of shifted scales */
 
 /* ---- Galileo and BeiDou ---- */

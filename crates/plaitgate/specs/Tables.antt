@@ -4,6 +4,7 @@ use mathlib.Core.Option.{Option, none, some}
 use mathlib.Core.List.{List}
 use Prim.Native.Nat.{ℕ}
 use lib.IntN.{pos}
+use Rattle.refusals.specs.Outcome.{Outcome, changed}
 use Rattle.tables.specs.Entries.{Entry, entry}
 use Rattle.images.specs.Image.{sized, imageOf, builtFrom}
 use Rattle.published.specs.LeapSecondsList.{Reading, listRead}
@@ -36,6 +37,17 @@ imageListed bytes b = cond (sized b) (leftOf (listRead bytes)) (listLeft 8 0 b)
 -- a yes or no as a number
 abbrev pub bit : Bool → ℕ
 bit b = cond b 1 0
+
+-- a value by a table, and 1 where the table is stale
+pub record Dated (A : Type 0) : Type 0 where
+  pub value : A
+  pub stale : ℕ
+
+abbrev pub datedAs : {A : Type 0} → A → ℕ → Dated A
+datedAs a k = record { value = a; stale = k }
+
+abbrev pub withStale : {A : Type 0} → Outcome A × Bool → Outcome (Dated A)
+withStale x = changed (λ a. datedAs a (bit (x .1))) (x .0)
 
 -- what may be there: 1 and it, or zeros
 pub record Found (A : Type 0) : Type 0 where

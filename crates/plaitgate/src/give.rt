@@ -8,19 +8,22 @@ ghost use Rattle.counts.specs.Answers.{countIn, durationIn, partsIn};
 ghost use Rattle.counts.specs.Units.{partsOf};
 ghost use Rattle.calendar.specs.Answers.{spanIn};
 ghost use Rattle.civil.specs.Fields.{fields};
-ghost use Rattle.conversions.specs.Answers.{unixIn};
-ghost use Rattle.tables.specs.Answers.{takenIn, lengthIn, emptyIn, entryIn, updateIn, offsetIn};
+ghost use Rattle.conversions.specs.Answers.{unixIn, datedIn, datedUnixIn};
+ghost use Rattle.tables.specs.Answers.{takenIn, lengthIn, emptyIn, entryIn, updateIn, offsetIn, datedOffsetIn};
 ghost use Rattle.tables.specs.Entries.{entry, threshold};
 ghost use Rattle.builtin.specs.Events.{eventIn};
-ghost use Rattle.plaitgate.specs.Tables.{bit, foundAs, foundEntry, foundCount};
+ghost use Rattle.plaitgate.specs.Tables.{bit, datedAs, withStale, foundAs, foundEntry, foundCount};
 ghost use mathlib.Core.Option.{none};
 use builtin::events::EventAnswer;
 use calendar::SpanAnswer;
 use civil::CivilDateTime;
+use conversions::DatedUnix;
 use conversions::UnixAnswer;
+use conversions::inner::dated::DatedCount;
 use counts::CountAnswer;
 use counts::DurationAnswer;
 use counts::units::PartsAnswer;
+use tables::DatedOffset;
 use tables::EmptyAnswer;
 use tables::EntryAnswer;
 use tables::LengthAnswer;
@@ -116,6 +119,67 @@ pub fn unix(answer: UnixAnswer, out: &mut i64) -> u32
     }
 }
 
+fn byte(yes: bool) -> u8
+    ensures { λ r. ⌜ r ≡ bit yes ⌝ }
+{
+    if yes { 1 } else { 0 }
+}
+
+// By a table: the last byte is 1 where the table is stale.
+pub fn dated_count(found: DatedCount, out: &mut u64, stale: &mut u8) -> u32
+    ensures { λ r. ⌜ Gives (datedAs 0 0) (withStale (datedIn found)) r (datedAs (now (out .exit)) (now (stale .exit))) ⌝ }
+{
+    let answer = found.answer;
+    match answer {
+        CountAnswer::Count(n) => {
+            *out = n;
+            *stale = byte(found.stale);
+            0
+        }
+        CountAnswer::Refused(r) => {
+            *out = 0;
+            *stale = 0;
+            r.number()
+        }
+    }
+}
+
+pub fn dated_unix(found: DatedUnix, out: &mut i64, stale: &mut u8) -> u32
+    ensures { λ r. ⌜ Gives (datedAs (pos 0) 0) (withStale (datedUnixIn found)) r (datedAs (now (out .exit)) (now (stale .exit))) ⌝ }
+{
+    let answer = found.answer;
+    match answer {
+        UnixAnswer::Seconds(n) => {
+            *out = n;
+            *stale = byte(found.stale);
+            0
+        }
+        UnixAnswer::Refused(r) => {
+            *out = 0;
+            *stale = 0;
+            r.number()
+        }
+    }
+}
+
+pub fn dated_offset(found: DatedOffset, out: &mut i32, stale: &mut u8) -> u32
+    ensures { λ r. ⌜ Gives (datedAs (pos 0) 0) (withStale (datedOffsetIn found)) r (datedAs (now (out .exit)) (now (stale .exit))) ⌝ }
+{
+    let answer = found.answer;
+    match answer {
+        OffsetAnswer::Offset(n) => {
+            *out = n;
+            *stale = byte(found.stale);
+            0
+        }
+        OffsetAnswer::Refused(r) => {
+            *out = 0;
+            *stale = 0;
+            r.number()
+        }
+    }
+}
+
 pub fn civil(
     c: CivilDateTime,
     year: &mut i32,
@@ -168,7 +232,7 @@ pub fn emptiness(answer: EmptyAnswer, out: &mut u8) -> u32
 {
     match answer {
         EmptyAnswer::Empty(yes) => {
-            *out = if yes { 1 } else { 0 };
+            *out = byte(yes);
             0
         }
         EmptyAnswer::Refused(r) => {

@@ -1,4 +1,4 @@
-// Files with leap seconds, read into an image of 776 bytes.
+// Files with leap seconds, read into an image of 784 bytes.
 ghost use mathlib.Core.Path.{_≡_};
 ghost use Rattle.plaitgate.specs.Tables.{listLeft, imageListed};
 use crate::give;

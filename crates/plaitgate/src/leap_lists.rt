@@ -1,6 +1,7 @@
 // A list of entries that the host lends as bytes, 12 for each, of any length. Nothing is copied, and no call writes to
 // it.
 ghost use mathlib.Core.Path.{_≡_};
+ghost use mathlib.Core.Bool.{false};
 ghost use mathlib.Core.Option.{none};
 ghost use lib.Dec.{eqb};
 ghost use lib.IntN.{pos};
@@ -8,7 +9,7 @@ ghost use lib.ListN.{length};
 ghost use Rattle.refusals.specs.Outcome.{Gives, answered, changed};
 ghost use Rattle.tables.specs.Entries.{offsetAt, currentOffset, lastUpdate};
 ghost use Rattle.images.specs.Listed.{listChecked, ofListed};
-ghost use Rattle.plaitgate.specs.Tables.{bit, foundAs, foundCount};
+ghost use Rattle.plaitgate.specs.Tables.{bit, datedAs, withStale, foundAs, foundCount};
 use crate::give;
 use scales::tai::Tai;
 
@@ -51,10 +52,21 @@ pub extern "C" fn plaitgate_list_current_tai_minus_utc(entries: &[u8], offset: &
     give::offset(images::list::current_tai_minus_utc(entries), offset)
 }
 
+// A list has no expiry, so it is never stale.
 #[no_mangle]
-pub extern "C" fn plaitgate_list_tai_minus_utc_at(entries: &[u8], tai: u64, offset: &mut i32) -> u32
-    ensures { λ r. ⌜ Gives (pos 0) (ofListed (now (entries .entry)) (λ es. answered (offsetAt es tai))) r
-        (now (offset .exit)) ⌝ }
+pub extern "C" fn plaitgate_list_tai_minus_utc_at(
+    entries: &[u8],
+    tai: u64,
+    offset: &mut i32,
+    stale: &mut u8,
+) -> u32
+    ensures { λ r. ⌜ Gives (datedAs (pos 0) 0)
+        (withStale (ofListed (now (entries .entry)) (λ es. answered (offsetAt es tai)), false)) r
+        (datedAs (now (offset .exit)) (now (stale .exit))) ⌝ }
 {
-    give::offset(images::list::tai_minus_utc_at(entries, Tai(tai)), offset)
+    give::dated_offset(
+        images::list::tai_minus_utc_at(entries, Tai(tai)),
+        offset,
+        stale,
+    )
 }

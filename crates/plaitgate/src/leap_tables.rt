@@ -1,4 +1,4 @@
-// Leap-second tables that a host holds as images of 776 bytes.
+// Leap-second tables that a host holds as images of 784 bytes.
 ghost use mathlib.Core.Path.{_≡_};
 ghost use mathlib.Core.List.{[]};
 ghost use mathlib.Core.Option.{none};
@@ -8,9 +8,10 @@ ghost use lib.ListN.{length, getElem?};
 ghost use Rattle.refusals.specs.Outcome.{Gives, answered, changed};
 ghost use Rattle.tables.specs.Entries.{entry, offsetAt, currentOffset, lastUpdate};
 ghost use Rattle.tables.specs.Slots.{tableOf};
-ghost use Rattle.images.specs.Image.{byImage, imageWritten, imageExtended};
+ghost use Rattle.tables.specs.Expiry.{expiryIn};
+ghost use Rattle.images.specs.Image.{tableIn, byImage, datedByImage, imageWritten, imageExtended, imageExpiring};
 ghost use Rattle.builtin.specs.Builtin.{builtin};
-ghost use Rattle.plaitgate.specs.Tables.{leaves, imageBuilt, bit, foundAs, foundEntry, foundCount};
+ghost use Rattle.plaitgate.specs.Tables.{leaves, imageBuilt, bit, datedAs, withStale, foundAs, foundEntry, foundCount};
 use crate::give;
 use scales::tai::Tai;
 use tables::LeapTable;
@@ -109,10 +110,38 @@ pub extern "C" fn plaitgate_table_current_tai_minus_utc(image: &[u8], offset: &m
     give::offset(images::table::current_tai_minus_utc(image), offset)
 }
 
+// And whether the table is stale at that reading.
 #[no_mangle]
-pub extern "C" fn plaitgate_table_tai_minus_utc_at(image: &[u8], tai: u64, offset: &mut i32) -> u32
-    ensures { λ r. ⌜ Gives (pos 0) (byImage (now (image .entry)) (λ es. answered (offsetAt es tai))) r
-        (now (offset .exit)) ⌝ }
+pub extern "C" fn plaitgate_table_tai_minus_utc_at(
+    image: &[u8],
+    tai: u64,
+    offset: &mut i32,
+    stale: &mut u8,
+) -> u32
+    ensures { λ r. ⌜ Gives (datedAs (pos 0) 0)
+        (withStale (datedByImage (now (image .entry)) (λ es. tai) (λ es. answered (offsetAt es tai)))) r
+        (datedAs (now (offset .exit)) (now (stale .exit))) ⌝ }
 {
-    give::offset(images::table::tai_minus_utc_at(image, Tai(tai)), offset)
+    give::dated_offset(
+        images::table::tai_minus_utc_at(image, Tai(tai)),
+        offset,
+        stale,
+    )
+}
+
+#[no_mangle]
+pub extern "C" fn plaitgate_table_expiry(image: &[u8], found: &mut u8, tai: &mut u64) -> u32
+    ensures { λ r. ⌜ Gives (foundCount none)
+        (changed foundCount (byImage (now (image .entry)) (λ es. answered (expiryIn (tableIn (now (image .entry))))))) r
+        (foundAs (now (found .exit)) (now (tai .exit))) ⌝ }
+{
+    give::update(images::table::expiry(image), found, tai)
+}
+
+// The largest count takes the expiry away.
+#[no_mangle]
+pub extern "C" fn plaitgate_table_set_expiry(image: &mut [u8], tai: u64) -> u32
+    ensures { λ r. ⌜ leaves r (now (image .exit)) ≡ imageExpiring (now (image .entry)) tai ⌝ }
+{
+    give::taken(images::table::set_expiry(image, Tai(tai)))
 }

@@ -2,6 +2,7 @@
 -- BeiDou to GPS, UTC and GLONASS, and back: each call leaves one refusal number, and one value through each reference
 -- that it writes, for each input.
 use denote.Ref.{now}
+use Rattle.plaitgate.specs.Tables.{datedAs}
 use Rattle.refusals.proofs.OneAnswer.{OneAnswerAndEnd, both}
 use Rattle.plaitgate.proofs.beidou_conversions
 
@@ -30,17 +31,17 @@ pub builtin-glonass-to-beidou : OneAnswerAndEnd beidou_conversions.plaitgate_bui
 builtin-glonass-to-beidou κ a x y e f p q = both p q
 
 pub table-beidou-to-utc : OneAnswerAndEnd beidou_conversions.plaitgate_table_beidou_to_utc.Reads.Post
-    (λ κ e. now (e .1 .1 .0))
+    (λ κ e. datedAs (now (e .1 .1 .0)) (now (e .1 .1 .1 .0)))
 table-beidou-to-utc κ a x y e f p q = both p q
 
 pub table-utc-to-beidou : OneAnswerAndEnd beidou_conversions.plaitgate_table_utc_to_beidou.Reads.Post
-    (λ κ e. now (e .1 .1 .0))
+    (λ κ e. datedAs (now (e .1 .1 .0)) (now (e .1 .1 .1 .0)))
 table-utc-to-beidou κ a x y e f p q = both p q
 
 pub table-beidou-to-glonass : OneAnswerAndEnd beidou_conversions.plaitgate_table_beidou_to_glonass.Reads.Post
-    (λ κ e. now (e .1 .1 .0))
+    (λ κ e. datedAs (now (e .1 .1 .0)) (now (e .1 .1 .1 .0)))
 table-beidou-to-glonass κ a x y e f p q = both p q
 
 pub table-glonass-to-beidou : OneAnswerAndEnd beidou_conversions.plaitgate_table_glonass_to_beidou.Reads.Post
-    (λ κ e. now (e .1 .1 .0))
+    (λ κ e. datedAs (now (e .1 .1 .0)) (now (e .1 .1 .1 .0)))
 table-glonass-to-beidou κ a x y e f p q = both p q

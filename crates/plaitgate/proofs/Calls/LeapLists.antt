@@ -3,7 +3,7 @@
 use mathlib.Core.Path.{sym, _∙_}
 use denote.Ref.{now}
 use Rattle.refusals.proofs.OneAnswer.{OneAnswer, OneAnswerAndEnd, both}
-use Rattle.plaitgate.specs.Tables.{foundAs}
+use Rattle.plaitgate.specs.Tables.{foundAs, datedAs}
 use Rattle.plaitgate.proofs.leap_lists.plaitgate_list_check.Reads as list-check-contract
 use Rattle.plaitgate.proofs.leap_lists.plaitgate_list_len.Reads as list-len-contract
 use Rattle.plaitgate.proofs.leap_lists.plaitgate_list_is_empty.Reads as list-is-empty-contract
@@ -27,5 +27,6 @@ list-last-update κ a x y e f p q = both p q
 pub list-current-tai-minus-utc : OneAnswerAndEnd list-current-tai-minus-utc-contract.Post (λ κ e. now (e .1 .0))
 list-current-tai-minus-utc κ a x y e f p q = both p q
 
-pub list-tai-minus-utc-at : OneAnswerAndEnd list-tai-minus-utc-at-contract.Post (λ κ e. now (e .1 .1 .0))
+pub list-tai-minus-utc-at : OneAnswerAndEnd list-tai-minus-utc-at-contract.Post
+    (λ κ e. datedAs (now (e .1 .1 .0)) (now (e .1 .1 .1 .0)))
 list-tai-minus-utc-at κ a x y e f p q = both p q

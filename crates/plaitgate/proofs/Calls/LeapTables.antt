@@ -5,13 +5,15 @@ use mathlib.Core.List.{List}
 use Prim.Native.Nat.{ℕ}
 use denote.Ref.{now}
 use Rattle.refusals.proofs.OneAnswer.{OneAnswerAndEnd, both}
-use Rattle.plaitgate.specs.Tables.{leaves, foundAs}
+use Rattle.plaitgate.specs.Tables.{leaves, foundAs, datedAs}
 use Rattle.tables.specs.Entries.{entry}
 use Rattle.plaitgate.proofs.leap_tables.plaitgate_table_len.Reads as table-len-contract
 use Rattle.plaitgate.proofs.leap_tables.plaitgate_table_is_empty.Reads as table-is-empty-contract
 use Rattle.plaitgate.proofs.leap_tables.plaitgate_table_current_tai_minus_utc.Reads as table-current-tai-minus-utc-contract
 use Rattle.plaitgate.proofs.leap_tables.plaitgate_table_tai_minus_utc_at.Reads as table-tai-minus-utc-at-contract
 use Rattle.plaitgate.proofs.leap_tables.plaitgate_table_last_update.Reads as table-last-update-contract
+use Rattle.plaitgate.proofs.leap_tables.plaitgate_table_expiry.Reads as table-expiry-contract
+use Rattle.plaitgate.proofs.leap_tables.plaitgate_table_set_expiry.Reads as table-set-expiry-contract
 use Rattle.plaitgate.proofs.leap_tables.plaitgate_table_entry_at.Reads as table-entry-at-contract
 use Rattle.plaitgate.proofs.leap_tables.plaitgate_table_new.Reads as table-new-contract
 use Rattle.plaitgate.proofs.leap_tables.plaitgate_table_from_builtin.Reads as table-from-builtin-contract
@@ -31,12 +33,16 @@ table-is-empty κ a x y e f p q = both p q
 pub table-current-tai-minus-utc : OneAnswerAndEnd table-current-tai-minus-utc-contract.Post (λ κ e. now (e .1 .0))
 table-current-tai-minus-utc κ a x y e f p q = both p q
 
-pub table-tai-minus-utc-at : OneAnswerAndEnd table-tai-minus-utc-at-contract.Post (λ κ e. now (e .1 .1 .0))
+pub table-tai-minus-utc-at : OneAnswerAndEnd table-tai-minus-utc-at-contract.Post
+    (λ κ e. datedAs (now (e .1 .1 .0)) (now (e .1 .1 .1 .0)))
 table-tai-minus-utc-at κ a x y e f p q = both p q
 
 pub table-last-update : OneAnswerAndEnd table-last-update-contract.Post
     (λ κ e. foundAs (now (e .1 .0)) (now (e .1 .1 .0)))
 table-last-update κ a x y e f p q = both p q
+
+pub table-expiry : OneAnswerAndEnd table-expiry-contract.Post (λ κ e. foundAs (now (e .1 .0)) (now (e .1 .1 .0)))
+table-expiry κ a x y e f p q = both p q
 
 pub table-entry-at : OneAnswerAndEnd table-entry-at-contract.Post
     (λ κ e. foundAs (now (e .1 .1 .0)) (entry (now (e .1 .1 .1 .0)) (now (e .1 .1 .1 .1 .0))))
@@ -53,3 +59,6 @@ table-from-entries κ a x y e f p q = left-one p q
 
 pub table-try-extend : OneAnswerAndEnd table-try-extend-contract.Post (λ κ e. now (e .0))
 table-try-extend κ a x y e f p q = left-one p q
+
+pub table-set-expiry : OneAnswerAndEnd table-set-expiry-contract.Post (λ κ e. now (e .0))
+table-set-expiry κ a x y e f p q = left-one p q

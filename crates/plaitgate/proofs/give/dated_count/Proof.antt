@@ -1,0 +1,20 @@
+-- `give::dated_count`, case by case.
+use mathlib.Core.Path.{refl, sym, ap}
+use borrow.Author.Needs.{needs}
+use Rattle.refusals.proofs.Given.{gives-same}
+use Rattle.counts.specs.Answers.{countIn}
+use Rattle.counts.specs.declared.CountAnswer.{CountAnswer}
+use Rattle.plaitgate.specs.Tables.{datedAs, withStale}
+use Rattle.plaitgate.proofs.give.dated_count as call
+
+returns : call.Tie.Need-returns
+returns c =
+    let given = c .before .before .answer .given in
+    let stale = c .before .before .before .before .args .found .stale in
+    gives-same (datedAs 0 0) (ap (λ (r : CountAnswer). withStale (countIn r, stale)) (sym (given .1)))
+    (refl, λ i. datedAs (given .0 .0) (c .byte .ensures i))
+
+pub dated-count-spec : {M : Type 1} → call.Statement.statement M
+dated-count-spec =
+    call.Tie.close
+    (call.Tie.spec (search needs) (search needs) (search needs) (search needs) returns (λ c. search needs))
