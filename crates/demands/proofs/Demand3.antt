@@ -1,25 +1,28 @@
 -- Demand 3: by their contracts the calls of a pair answer what `gpsToUtc` and `utcToGps` say, and WayBack.antt proves
 -- it of these. specs/OfCalls.antt names the pairs, specs/TwoInstants.antt says what is proved.
 use mathlib.Core.Path.{_≡_, refl, sym, ap, _∙_}
-use mathlib.Core.Bool.{true}
+use mathlib.Core.Bool.{Bool, true}
 use mathlib.Core.List.{List}
-use Prim.Native.Nat.{ℕ}
+use Prim.Native.Nat.{ℕ, _+_}
 use native.Mathlib.Omega.{arith}
 use borrow.Author.Tests.{le-leb}
 use denote.Ref.{now}
 use lib.ListN.{length}
-use Rattle.refusals.specs.Outcome.{Outcome, Gives, then, unless}
-use Rattle.refusals.proofs.Given.{Numbered, told-is}
+use Rattle.refusals.specs.Outcome.{Outcome, answered, refused, valueIn, Gives, then, unless}
+use Rattle.refusals.proofs.Given.{Numbered, gives-same, told-is}
 use Rattle.counts.specs.Answers.{countIn}
 use Rattle.scales.specs.Scales.{taiMinusGps}
 use Rattle.tables.specs.Entries.{Entry, regular}
 use Rattle.tables.specs.Slots.{entriesOf, validTable, ofValid}
+use Rattle.tables.specs.Expiry.{staleAt, byTable}
 use Rattle.tables.specs.declared.LeapTable.{LeapTable}
 use Rattle.tables.proofs.Checked.{good}
 use Rattle.tables.proofs.Tested.{valid-tested, regular-tested}
-use Rattle.images.specs.Image.{imageBytes, tableIn, byImage}
+use Rattle.images.specs.Image.{imageBytes, tableIn, byImage, datedByImage}
 use Rattle.images.proofs.Whole.{of-size}
-use Rattle.conversions.specs.Conversions.{gpsToUtc, utcToGps}
+use Rattle.conversions.specs.Conversions.{gpsToUtc, lastReading, utcToGps}
+use Rattle.conversions.proofs.Dated.{answer-is}
+use Rattle.plaitgate.specs.Tables.{Dated, datedAs, withStale}
 use Rattle.builtin.specs.Builtin.{builtin}
 use Rattle.builtin.proofs.Regular.{builtin-regular}
 use Rattle.demands.specs.TwoInstants.{TwoInstants}
@@ -48,18 +51,31 @@ module _ {Lifetimes : Type 0} {Arguments Answer End : Lifetimes → Type 0}
   allowed d says o (κ, a, r, e, asks, holds, tells) = sym tells ∙ says κ a r e asks holds
 
 -- the same by a regular table, which is valid: no 8 comes first
-module _ (t : LeapTable) (r : Regular t) (lead : ℕ) {f g : ℕ → Outcome ℕ} (i : TwoInstants (entriesOf t) lead 0 f g) where
-  is-valid : validTable t ≡ true
-  is-valid =
-      rw (le-leb (t .len) 64 (omega (arith, r .0)))
-      (valid-tested (entriesOf t) .1 (regular-tested (entriesOf t) .0 (r .1) .valid))
+pub regular-valid : (t : LeapTable) → Regular t → validTable t ≡ true
+regular-valid t r =
+    rw (le-leb (t .len) 64 (omega (arith, r .0)))
+    (valid-tested (entriesOf t) .1 (regular-tested (entriesOf t) .0 (r .1) .valid))
 
+module _ (t : LeapTable) (r : Regular t) (lead : ℕ) {f g : ℕ → Outcome ℕ} (i : TwoInstants (entriesOf t) lead 0 f g) where
   pub of-table : {There Back : ℕ → Outcome ℕ → Type 0} → ((n : ℕ) (o : Outcome ℕ) → There n o → o ≡ ofValid t (f n))
       → ((u : ℕ) (o : Outcome ℕ) → Back u o → o ≡ ofValid t (g u)) → TwoInstantsOf (entriesOf t) lead There Back
   of-table to from =
       of-pair (entriesOf t) lead i
-      (λ n o a. to n o a ∙ sym (good t _ is-valid))
-      (λ u o a. from u o a ∙ sym (good t _ is-valid))
+      (λ n o a. to n o a ∙ sym (good t _ (regular-valid t r)))
+      (λ u o a. from u o a ∙ sym (good t _ (regular-valid t r)))
+
+-- what a call by a table answers, whatever it tells of the expiry
+pub by-table : (t : LeapTable) (tai : ℕ) (o : Outcome ℕ) {x : Outcome ℕ × Bool} → x ≡ byTable t tai o → x .0 ≡ ofValid t o
+by-table t tai o = answer-is (staleAt (t .expiry) tai) (ofValid t o)
+
+pub by-bytes : (b : List ℕ) (tai : List Entry → ℕ) (answer : List Entry → Outcome ℕ) {x : Outcome ℕ × Bool}
+    → x ≡ datedByImage b tai answer → x .0 ≡ byImage b answer
+by-bytes b tai answer = answer-is (staleAt (tableIn b .expiry) (tai (entriesOf (tableIn b)))) (byImage b answer)
+
+-- what a host is given of it
+count-given : (x : Outcome ℕ × Bool) {k v s : ℕ} → Gives (datedAs 0 0) (withStale x) k (datedAs v s) → Gives 0 (x .0) k v
+count-given (answered a, stale) (number, value) = (number, ap (λ (d : Dated ℕ). d .value) value)
+count-given (refused j, stale) (number, value) = (number, ap (λ (d : Dated ℕ). d .value) value)
 
 -- what the table in an image b answers for n
 module _ (convert : List Entry → ℕ → Outcome ℕ) {b : List ℕ} (size : length b ≡ imageBytes) {n : ℕ} where
@@ -68,25 +84,34 @@ module _ (convert : List Entry → ℕ → Outcome ℕ) {b : List ℕ} (size : l
   of-image (p, q) = (λ i. byImage (q i) (λ es. convert es (p i))) ∙ sym (of-size b _ _ size)
 
   -- a host reads it off the number and the value
-  pub as-told : ((es : List Entry) (m : ℕ) → Numbered (convert es m)) → {b′ : List ℕ} {m k v : ℕ} → (m ≡ n) × (b′ ≡ b)
-      → Gives 0 (byImage b′ (λ es. convert es m)) k v
+  pub as-told : (tai : List Entry → ℕ → ℕ) → ((es : List Entry) (m : ℕ) → Numbered (convert es m))
+      → {b′ : List ℕ} {m k v s : ℕ} → (m ≡ n) × (b′ ≡ b)
+      → Gives (datedAs 0 0) (withStale (datedByImage b′ (λ es. tai es m) (λ es. convert es m))) k (datedAs v s)
       → unless k v ≡ ofValid (tableIn b) (convert (entriesOf (tableIn b)) n)
-  as-told numbered {b′} {m} asked p =
-      told-is 0 _ (by-image-numbered b′ (λ es. convert es m) (λ es. numbered es m)) p ∙ of-image asked
+  as-told tai numbered {b′} {m} asked p =
+      let whole = datedByImage b′ (λ es. tai es m) (λ es. convert es m) in
+      let given = gives-same 0 (by-bytes b′ (λ es. tai es m) (λ es. convert es m) refl) (count-given whole p) in
+      told-is 0 _ (by-image-numbered b′ (λ es. convert es m) (λ es. numbered es m)) given ∙ of-image asked
 
 pub demand-3 : Demand3
 demand-3 = record {
   by-value = λ t r.
       of-table t r taiMinusGps (by-regular-lists (entriesOf t) (r .1))
-      (λ g. allowed _ (λ κ a x e q p. p ∙ (λ i. ofValid (q .1 i) (gpsToUtc (entriesOf (q .1 i)) (q .0 i)))))
-      (λ u. allowed _ (λ κ a x e q p. p ∙ (λ i. ofValid (q .1 i) (utcToGps (entriesOf (q .1 i)) (q .0 i)))));
+      (λ g. allowed _ (λ κ a x e q p.
+      by-table (a .1 .0) (a .0 .0 + taiMinusGps) (gpsToUtc (entriesOf (a .1 .0)) (a .0 .0)) p
+      ∙ (λ i. ofValid (q .1 i) (gpsToUtc (entriesOf (q .1 i)) (q .0 i)))))
+      (λ u. allowed _ (λ κ a x e q p.
+      by-table (a .1 .0) (lastReading (entriesOf (a .1 .0)) (a .0 .0)) (utcToGps (entriesOf (a .1 .0)) (a .0 .0)) p
+      ∙ (λ i. ofValid (q .1 i) (utcToGps (entriesOf (q .1 i)) (q .0 i)))));
   in-place = λ b size r.
       of-table (tableIn b) r taiMinusGps (by-regular-lists (entriesOf (tableIn b)) (r .1))
       (λ g. allowed _ (λ κ a r e q p.
-      p ∙ (λ i. byImage (now (a .1 .0)) (λ es. then (countIn (q .0 i)) (gpsToUtc es)))
+      by-bytes (now (a .1 .0)) (λ es. valueIn 0 (countIn (a .0)) + taiMinusGps) (λ es. then (countIn (a .0)) (gpsToUtc es)) p
+      ∙ (λ i. byImage (now (a .1 .0)) (λ es. then (countIn (q .0 i)) (gpsToUtc es)))
       ∙ of-image gpsToUtc size {n = g} (refl, q .1)))
       (λ u. allowed _ (λ κ a r e q p.
-      p ∙ (λ i. byImage (now (a .1 .0)) (λ es. then (countIn (q .0 i)) (utcToGps es)))
+      by-bytes (now (a .1 .0)) (λ es. lastReading es (valueIn 0 (countIn (a .0)))) (λ es. then (countIn (a .0)) (utcToGps es)) p
+      ∙ (λ i. byImage (now (a .1 .0)) (λ es. then (countIn (q .0 i)) (utcToGps es)))
       ∙ of-image utcToGps size {n = u} (refl, q .1)));
   built-in =
       of-pair builtin taiMinusGps (by-regular-lists builtin builtin-regular)
@@ -94,8 +119,8 @@ demand-3 = record {
       (λ u. allowed _ (λ κ a r e q p. p ∙ ap (utcToGps builtin) q));
   exported = λ b size r.
       of-table (tableIn b) r taiMinusGps (by-regular-lists (entriesOf (tableIn b)) (r .1))
-      (λ g. allowed _ (λ κ a k e q p. as-told gpsToUtc size to-utc-numbered q p))
-      (λ u. allowed _ (λ κ a k e q p. as-told utcToGps size to-gps-numbered q p));
+      (λ g. allowed _ (λ κ a k e q p. as-told gpsToUtc size (λ es g. g + taiMinusGps) to-utc-numbered q p))
+      (λ u. allowed _ (λ κ a k e q p. as-told utcToGps size lastReading to-gps-numbered q p));
   exported-built-in =
       of-pair builtin taiMinusGps (by-regular-lists builtin builtin-regular)
       (λ g. allowed _ (λ κ a k e q p. told-is 0 _ (to-utc-numbered builtin (a .0)) p ∙ ap (gpsToUtc builtin) q))

@@ -5,21 +5,21 @@ use mathlib.Core.Path.{_≡_, refl, ap, _∙_}
 use mathlib.Core.Bool.{true}
 use Prim.Native.Nat.{ℕ, _+_}
 use denote.Ref.{now}
-use Rattle.refusals.specs.Outcome.{then}
+use Rattle.refusals.specs.Outcome.{valueIn, then}
 use Rattle.refusals.proofs.Given.{told-is}
 use Rattle.counts.specs.Answers.{countIn}
 use Rattle.scales.specs.Scales.{taiMinusGps, gpsMinusGalileo, gpsMinusBeidou}
 use Rattle.tables.specs.Slots.{entriesOf, ofValid}
 use Rattle.tables.specs.declared.LeapTable.{LeapTable}
 use Rattle.images.specs.Image.{tableIn, byImage}
-use Rattle.conversions.specs.Shifted.{shiftedToUtc, utcToShifted}
+use Rattle.conversions.specs.Shifted.{shiftedToUtc, utcToShifted, shiftedReading}
 use Rattle.builtin.specs.Builtin.{builtin}
 use Rattle.builtin.proofs.Regular.{builtin-regular}
 use Rattle.demands.specs.TwoInstants.{TwoInstants}
 use Rattle.demands.specs.OfCalls.{Regular}
 use Rattle.demands.specs.OfShifted.{Demand3Shifted}
 use Rattle.demands.proofs.AnswerOrRefusal.{shifted-to-utc-numbered, utc-to-shifted-numbered}
-use Rattle.demands.proofs.Demand3.{of-pair, of-table, allowed, of-image, as-told}
+use Rattle.demands.proofs.Demand3.{of-pair, of-table, by-table, by-bytes, allowed, of-image, as-told}
 use Rattle.demands.proofs.Shifted.{shifted-instants}
 
 pub demand-3-shifted : Demand3Shifted
@@ -27,17 +27,25 @@ demand-3-shifted = record {
   in-place = λ d b size r.
       of-table (tableIn b) r (taiMinusGps + d) (shifted-instants (entriesOf (tableIn b)) (r .1) d)
       (λ n. allowed _ (λ κ a x e q p.
-      p ∙ (λ i. byImage (now (a .1 .0)) (λ es. then (countIn (q .0 i)) (shiftedToUtc (q .2 i) es)))
+      by-bytes (now (a .1 .0)) (λ es. valueIn 0 (countIn (a .0)) + a .1 .1 .0 + taiMinusGps)
+      (λ es. then (countIn (a .0)) (shiftedToUtc (a .1 .1 .0) es)) p
+      ∙ (λ i. byImage (now (a .1 .0)) (λ es. then (countIn (q .0 i)) (shiftedToUtc (q .2 i) es)))
       ∙ of-image (shiftedToUtc d) size {n = n} (refl, q .1)))
       (λ u. allowed _ (λ κ a x e q p.
-      p ∙ (λ i. byImage (now (a .1 .0)) (λ es. then (countIn (q .0 i)) (utcToShifted (q .2 i) es)))
+      by-bytes (now (a .1 .0)) (λ es. shiftedReading (a .1 .1 .0) es (valueIn 0 (countIn (a .0))))
+      (λ es. then (countIn (a .0)) (utcToShifted (a .1 .1 .0) es)) p
+      ∙ (λ i. byImage (now (a .1 .0)) (λ es. then (countIn (q .0 i)) (utcToShifted (q .2 i) es)))
       ∙ of-image (utcToShifted d) size {n = u} (refl, q .1)));
   galileo-by-value = λ t r.
       of-table t r (taiMinusGps + gpsMinusGalileo) (shifted-instants (entriesOf t) (r .1) gpsMinusGalileo)
       (λ n. allowed _ (λ κ a x e q p.
-      p ∙ (λ i. ofValid (q .1 i) (shiftedToUtc gpsMinusGalileo (entriesOf (q .1 i)) (q .0 i)))))
+      by-table (a .1 .0) (a .0 .0 + gpsMinusGalileo + taiMinusGps)
+      (shiftedToUtc gpsMinusGalileo (entriesOf (a .1 .0)) (a .0 .0)) p
+      ∙ (λ i. ofValid (q .1 i) (shiftedToUtc gpsMinusGalileo (entriesOf (q .1 i)) (q .0 i)))))
       (λ u. allowed _ (λ κ a x e q p.
-      p ∙ (λ i. ofValid (q .1 i) (utcToShifted gpsMinusGalileo (entriesOf (q .1 i)) (q .0 i)))));
+      by-table (a .1 .0) (shiftedReading gpsMinusGalileo (entriesOf (a .1 .0)) (a .0 .0))
+      (utcToShifted gpsMinusGalileo (entriesOf (a .1 .0)) (a .0 .0)) p
+      ∙ (λ i. ofValid (q .1 i) (utcToShifted gpsMinusGalileo (entriesOf (q .1 i)) (q .0 i)))));
   galileo-built-in =
       of-pair builtin (taiMinusGps + gpsMinusGalileo) (shifted-instants builtin builtin-regular gpsMinusGalileo)
       (λ n. allowed _ (λ κ a x e q p. p ∙ ap (shiftedToUtc gpsMinusGalileo builtin) q))
@@ -46,9 +54,9 @@ demand-3-shifted = record {
       of-table (tableIn b) r (taiMinusGps + gpsMinusGalileo)
       (shifted-instants (entriesOf (tableIn b)) (r .1) gpsMinusGalileo)
       (λ n. allowed _ (λ κ a k e q p.
-      as-told (shiftedToUtc gpsMinusGalileo) size (shifted-to-utc-numbered gpsMinusGalileo) q p))
+      as-told (shiftedToUtc gpsMinusGalileo) size (λ es n. n + gpsMinusGalileo + taiMinusGps) (shifted-to-utc-numbered gpsMinusGalileo) q p))
       (λ u. allowed _ (λ κ a k e q p.
-      as-told (utcToShifted gpsMinusGalileo) size (utc-to-shifted-numbered gpsMinusGalileo) q p));
+      as-told (utcToShifted gpsMinusGalileo) size (shiftedReading gpsMinusGalileo) (utc-to-shifted-numbered gpsMinusGalileo) q p));
   galileo-exported-built-in =
       of-pair builtin (taiMinusGps + gpsMinusGalileo) (shifted-instants builtin builtin-regular gpsMinusGalileo)
       (λ n. allowed _ (λ κ a k e q p.
@@ -60,9 +68,13 @@ demand-3-shifted = record {
   beidou-by-value = λ t r.
       of-table t r (taiMinusGps + gpsMinusBeidou) (shifted-instants (entriesOf t) (r .1) gpsMinusBeidou)
       (λ n. allowed _ (λ κ a x e q p.
-      p ∙ (λ i. ofValid (q .1 i) (shiftedToUtc gpsMinusBeidou (entriesOf (q .1 i)) (q .0 i)))))
+      by-table (a .1 .0) (a .0 .0 + gpsMinusBeidou + taiMinusGps)
+      (shiftedToUtc gpsMinusBeidou (entriesOf (a .1 .0)) (a .0 .0)) p
+      ∙ (λ i. ofValid (q .1 i) (shiftedToUtc gpsMinusBeidou (entriesOf (q .1 i)) (q .0 i)))))
       (λ u. allowed _ (λ κ a x e q p.
-      p ∙ (λ i. ofValid (q .1 i) (utcToShifted gpsMinusBeidou (entriesOf (q .1 i)) (q .0 i)))));
+      by-table (a .1 .0) (shiftedReading gpsMinusBeidou (entriesOf (a .1 .0)) (a .0 .0))
+      (utcToShifted gpsMinusBeidou (entriesOf (a .1 .0)) (a .0 .0)) p
+      ∙ (λ i. ofValid (q .1 i) (utcToShifted gpsMinusBeidou (entriesOf (q .1 i)) (q .0 i)))));
   beidou-built-in =
       of-pair builtin (taiMinusGps + gpsMinusBeidou) (shifted-instants builtin builtin-regular gpsMinusBeidou)
       (λ n. allowed _ (λ κ a x e q p. p ∙ ap (shiftedToUtc gpsMinusBeidou builtin) q))
@@ -71,9 +83,9 @@ demand-3-shifted = record {
       of-table (tableIn b) r (taiMinusGps + gpsMinusBeidou)
       (shifted-instants (entriesOf (tableIn b)) (r .1) gpsMinusBeidou)
       (λ n. allowed _ (λ κ a k e q p.
-      as-told (shiftedToUtc gpsMinusBeidou) size (shifted-to-utc-numbered gpsMinusBeidou) q p))
+      as-told (shiftedToUtc gpsMinusBeidou) size (λ es n. n + gpsMinusBeidou + taiMinusGps) (shifted-to-utc-numbered gpsMinusBeidou) q p))
       (λ u. allowed _ (λ κ a k e q p.
-      as-told (utcToShifted gpsMinusBeidou) size (utc-to-shifted-numbered gpsMinusBeidou) q p));
+      as-told (utcToShifted gpsMinusBeidou) size (shiftedReading gpsMinusBeidou) (utc-to-shifted-numbered gpsMinusBeidou) q p));
   beidou-exported-built-in =
       of-pair builtin (taiMinusGps + gpsMinusBeidou) (shifted-instants builtin builtin-regular gpsMinusBeidou)
       (λ n. allowed _ (λ κ a k e q p.

@@ -27,5 +27,6 @@ every-example week =
     refl also refl also refl also refl also refl also refl also refl also refl also refl also refl also refl also refl also
     refl also refl also refl also refl also refl also refl also refl also refl also refl also refl also refl also refl also
     refl also refl also refl also refl also refl also refl also refl also refl also refl also refl also refl also refl also
+    refl also refl also refl also refl also refl also refl also refl also refl also refl also refl also refl also
     ap (at 23 34 33 709_551_615) last-day also
     refl also refl also refl also refl also refl also refl also refl also refl also refl also none-left

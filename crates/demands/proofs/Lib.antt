@@ -11,3 +11,4 @@ pub mod Demand3Shifted
 pub mod EveryExample
 pub mod InsertedSecond
 pub mod Pinned
+pub mod Stale

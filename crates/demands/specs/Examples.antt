@@ -1,19 +1,22 @@
 -- The checked examples that are proved: one list, in the order of the rules.
 use mathlib.Core.Path.{_≡_}
-use mathlib.Core.Bool.{true, false}
+use mathlib.Core.Bool.{Bool, true, false}
 use mathlib.Core.List.{List, [], _∷_}
-use Prim.Native.Nat.{ℕ, _*_}
+use Prim.Native.Nat.{ℕ, _+_, _*_}
 use lib.IntN.{pos}
-use Rattle.refusals.specs.Outcome.{answered, refused}
+use Rattle.refusals.specs.Outcome.{Outcome, answered, refused}
 use Rattle.counts.specs.Exact.{up, down}
 use Rattle.counts.specs.Units.{second, weekSeconds, ofUnits}
 use Rattle.civil.specs.Fields.{fields, fieldsOf, countAt}
 use Rattle.tables.specs.Entries.{Entry, entry, regular}
-use Rattle.tables.specs.Slots.{tableOf, extended}
-use Rattle.conversions.specs.Conversions.{glonassEpoch, gpsToUtc, utcToGps, glonassToGps}
+use Rattle.tables.specs.Slots.{entriesOf, tableOf, extended}
+use Rattle.tables.specs.Expiry.{byTable, withExpiry}
+use Rattle.tables.specs.declared.LeapTable.{LeapTable}
+use Rattle.conversions.specs.Conversions.{glonassEpoch, gpsToUtc, lastReading, utcToGps, glonassToGps}
 use Rattle.conversions.specs.Shifted.{shiftedToUtc, utcToShifted, glonassToShifted}
 use Rattle.scales.specs.Scales.{gpsMinusGalileo, gpsMinusBeidou}
 use Rattle.builtin.specs.Builtin.{builtin}
+use Rattle.demands.specs.Stale.{byGps, byUtc}
 
 infix 68 _is_
 -- what a definition gives, and what it must give
@@ -36,6 +39,13 @@ builtinWith e = let (number, table) = extended (tableOf builtin) e in (number, t
 -- an offset of 19 from one threshold on, and 20 from another
 abbrev pub from : ℕ → ℕ → List Entry
 from a b = entry a (pos 19) ∷ entry b (pos 20) ∷ []
+
+-- the built-in entries with the expiry of the list that says 28 June 2026: NTP second 3,991,593,600
+abbrev pub untilJune : LeapTable
+untilJune = withExpiry (1_466_640_037 * second) (tableOf builtin)
+
+abbrev pub byGlonass : LeapTable → ℕ → Outcome ℕ × Bool
+byGlonass t n = byTable t (lastReading (entriesOf t) (n + glonassEpoch)) (glonassToGps (entriesOf t) n)
 
 -- with any week
 abbrev pub examples : ℕ → List Example
@@ -80,6 +90,22 @@ examples week =
     builtinWith (entry 1_167_264_037_000_000_000 (pos 38)) is (3, 19) ∷
     builtinWith (entry 1_167_264_037_000_000_001 (pos 39)) is (4, 19) ∷
     builtinWith (entry 1_167_264_037_000_000_001 (pos 38)) is (0, 20) ∷
+    -- the list that expires on 28 June 2026: a nanosecond before not stale, and then stale, by GPS, UTC and GLONASS
+    countAt (fields (pos 2026) 6 28 0 0 0 0) is answered (1_719_532_800 * second) ∷
+    byGps untilJune 1_466_640_017_999_999_999 is (answered 1_719_532_799_999_999_999, false) ∷
+    byGps untilJune (1_466_640_018 * second) is (answered (1_719_532_800 * second), true) ∷
+    byUtc untilJune 1_719_532_799_999_999_999 is (answered 1_466_640_017_999_999_999, false) ∷
+    byUtc untilJune (1_719_532_800 * second) is (answered (1_466_640_018 * second), true) ∷
+    byGlonass untilJune 962_161_199_999_999_999 is (answered 1_466_640_017_999_999_999, false) ∷
+    byGlonass untilJune (962_161_200 * second) is (answered (1_466_640_018 * second), true) ∷
+    -- five seconds after the event of 2017 the reading b is a second before that of the answer, which is the expiry
+    byUtc (withExpiry (1_167_264_042 * second) (tableOf builtin)) (1_420_156_805 * second)
+    is (answered (1_167_264_023 * second), false) ∷
+    byUtc (withExpiry (1_167_264_041 * second) (tableOf builtin)) (1_420_156_805 * second)
+    is (answered (1_167_264_023 * second), true) ∷
+    -- a refused count is not stale, and a table without an expiry never is
+    byUtc (withExpiry 0 (tableOf builtin)) 0 is (refused 1, false) ∷
+    byGps (tableOf builtin) 18_193_851_291_709_551_615 is (answered 18_446_744_073_709_551_615, false) ∷
     fieldsOf 18_446_744_073_709_551_615 is fields (pos 2556) 7 20 23 34 33 709_551_615 ∷
     countAt (fields (pos 1972) 1 1 255 0 0 0) is answered (918_000 * second) ∷
     ofUnits weekSeconds 30_500 344_073 709_551_615 is answered 18_446_744_073_709_551_615 ∷

@@ -2,4 +2,5 @@ pub mod TwoInstants
 pub mod OfCalls
 pub mod OfShifted
 pub mod RefusalsLeave
+pub mod Stale
 pub mod Examples

@@ -49,12 +49,12 @@ Regular t = (t .len ≤ 64) × (regular (entriesOf t) ≡ true)
 pub record Demand3 : Type 0 where
   -- `conversions::gps_to_utc` and `utc_to_gps`, by a table
   pub by-value : (t : LeapTable) → Regular t → TwoInstantsOf (entriesOf t) taiMinusGps
-      (λ g. Allows gps-to-utc.Post (λ κ a. (a .0 .0 ≡ g) × (a .1 .0 ≡ t)) (λ κ r e. utcIn r))
-      (λ u. Allows utc-to-gps.Post (λ κ a. (a .0 .0 ≡ u) × (a .1 .0 ≡ t)) (λ κ r e. gpsIn r))
+      (λ g. Allows gps-to-utc.Post (λ κ a. (a .0 .0 ≡ g) × (a .1 .0 ≡ t)) (λ κ r e. utcIn (r .answer)))
+      (λ u. Allows utc-to-gps.Post (λ κ a. (a .0 .0 ≡ u) × (a .1 .0 ≡ t)) (λ κ r e. gpsIn (r .answer)))
   -- `images::table::utc_from_gps` and `gps_from_utc`, by an image
   pub in-place : (b : List ℕ) → length b ≡ imageBytes → Regular (tableIn b) → TwoInstantsOf (entriesOf (tableIn b)) taiMinusGps
-      (λ g. Allows image-utc-from-gps.Post (λ κ a. (a .0 ≡ count.Count g) × (now (a .1 .0) ≡ b)) (λ κ r e. countIn r))
-      (λ u. Allows image-gps-from-utc.Post (λ κ a. (a .0 ≡ count.Count u) × (now (a .1 .0) ≡ b)) (λ κ r e. countIn r))
+      (λ g. Allows image-utc-from-gps.Post (λ κ a. (a .0 ≡ count.Count g) × (now (a .1 .0) ≡ b)) (λ κ r e. countIn (r .answer)))
+      (λ u. Allows image-gps-from-utc.Post (λ κ a. (a .0 ≡ count.Count u) × (now (a .1 .0) ≡ b)) (λ κ r e. countIn (r .answer)))
   -- `builtin::gps_to_utc` and `utc_to_gps`
   pub built-in : TwoInstantsOf builtin taiMinusGps
       (λ g. Allows builtin-gps-to-utc.Post (λ κ a. a .0 .0 ≡ g) (λ κ r e. utcIn r))

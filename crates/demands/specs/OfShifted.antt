@@ -40,13 +40,13 @@ pub record Demand3Shifted : Type 0 where
   pub in-place : (d : ℕ) (b : List ℕ) → length b ≡ imageBytes → Regular (tableIn b)
       → TwoInstantsOf (entriesOf (tableIn b)) (taiMinusGps + d)
       (λ n. Allows image-utc-from-shifted.Post
-      (λ κ a. (a .0 ≡ count.Count n) × (now (a .1 .0) ≡ b) × (a .1 .1 .0 ≡ d)) (λ κ r e. countIn r))
+      (λ κ a. (a .0 ≡ count.Count n) × (now (a .1 .0) ≡ b) × (a .1 .1 .0 ≡ d)) (λ κ r e. countIn (r .answer)))
       (λ u. Allows image-shifted-from-utc.Post
-      (λ κ a. (a .0 ≡ count.Count u) × (now (a .1 .0) ≡ b) × (a .1 .1 .0 ≡ d)) (λ κ r e. countIn r))
+      (λ κ a. (a .0 ≡ count.Count u) × (now (a .1 .0) ≡ b) × (a .1 .1 .0 ≡ d)) (λ κ r e. countIn (r .answer)))
   -- Galileo, by a table
   pub galileo-by-value : (t : LeapTable) → Regular t → TwoInstantsOf (entriesOf t) (taiMinusGps + gpsMinusGalileo)
-      (λ n. Allows galileo-to-utc.Post (λ κ a. (a .0 .0 ≡ n) × (a .1 .0 ≡ t)) (λ κ r e. utcIn r))
-      (λ u. Allows utc-to-galileo.Post (λ κ a. (a .0 .0 ≡ u) × (a .1 .0 ≡ t)) (λ κ r e. galileoIn r))
+      (λ n. Allows galileo-to-utc.Post (λ κ a. (a .0 .0 ≡ n) × (a .1 .0 ≡ t)) (λ κ r e. utcIn (r .answer)))
+      (λ u. Allows utc-to-galileo.Post (λ κ a. (a .0 .0 ≡ u) × (a .1 .0 ≡ t)) (λ κ r e. galileoIn (r .answer)))
   pub galileo-built-in : TwoInstantsOf builtin (taiMinusGps + gpsMinusGalileo)
       (λ n. Allows builtin-galileo-to-utc.Post (λ κ a. a .0 .0 ≡ n) (λ κ r e. utcIn r))
       (λ u. Allows builtin-utc-to-galileo.Post (λ κ a. a .0 .0 ≡ u) (λ κ r e. galileoIn r))
@@ -62,8 +62,8 @@ pub record Demand3Shifted : Type 0 where
       (λ u. Allows host-builtin-utc-to-galileo.Post (λ κ a. a .0 ≡ u) (λ κ k e. unless k (now (e .1 .0))))
   -- BeiDou, by a table
   pub beidou-by-value : (t : LeapTable) → Regular t → TwoInstantsOf (entriesOf t) (taiMinusGps + gpsMinusBeidou)
-      (λ n. Allows beidou-to-utc.Post (λ κ a. (a .0 .0 ≡ n) × (a .1 .0 ≡ t)) (λ κ r e. utcIn r))
-      (λ u. Allows utc-to-beidou.Post (λ κ a. (a .0 .0 ≡ u) × (a .1 .0 ≡ t)) (λ κ r e. beidouIn r))
+      (λ n. Allows beidou-to-utc.Post (λ κ a. (a .0 .0 ≡ n) × (a .1 .0 ≡ t)) (λ κ r e. utcIn (r .answer)))
+      (λ u. Allows utc-to-beidou.Post (λ κ a. (a .0 .0 ≡ u) × (a .1 .0 ≡ t)) (λ κ r e. beidouIn (r .answer)))
   pub beidou-built-in : TwoInstantsOf builtin (taiMinusGps + gpsMinusBeidou)
       (λ n. Allows builtin-beidou-to-utc.Post (λ κ a. a .0 .0 ≡ n) (λ κ r e. utcIn r))
       (λ u. Allows builtin-utc-to-beidou.Post (λ κ a. a .0 .0 ≡ u) (λ κ r e. beidouIn r))

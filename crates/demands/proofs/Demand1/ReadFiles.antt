@@ -9,8 +9,8 @@ use borrow.Author.Tests.{ne-eqb}
 use lib.Dec.{eqb, ltb}
 use lib.ListN.{length}
 use denote.Ref.{now}
-use Rattle.tables.specs.Entries.{Entry}
 use Rattle.tables.specs.Slots.{tableOf}
+use Rattle.tables.specs.declared.LeapTable.{LeapTable}
 use Rattle.images.specs.Image.{imageBytes, sized, imageOf}
 use Rattle.images.proofs.Whole.{of-size, not-of-size}
 use Rattle.published.specs.LeapSecondsList.{Reading, badList, firstMalformed, ofRecords, ofLines, listRead}
@@ -31,12 +31,12 @@ of-form : (n : ℕ) → Leaves (badList n)
 of-form n = record { empty = λ m. refl; no-line = λ m. absurd (m refl) }
 
 -- the table of n records, by the number that their refusal has
-of-records : (n k : ℕ) (es : List Entry) → Leaves (ofRecords n (k, tableOf (cond (eqb k 0) es [])))
-of-records n k es = record { empty = λ m. rw (ne-eqb k 0 m); no-line = λ m. refl }
+of-records : (n k : ℕ) (t : LeapTable) → Leaves (ofRecords n (k, cond (eqb k 0) t (tableOf [])))
+of-records n k t = record { empty = λ m. rw (ne-eqb k 0 m); no-line = λ m. refl }
 
 -- malformed at a line, or by its records
 lines-leave : (ls : List (List ℕ)) → Leaves (ofLines ls)
-lines-leave ls = either (eqb (firstMalformed 1 ls) 0) (of-records _ _ _) (of-form (firstMalformed 1 ls))
+lines-leave ls = either (eqb (firstMalformed false 1 ls) 0) (of-records _ _ _) (of-form (firstMalformed false 1 ls))
 
 -- too long, or by its lines
 reading-leaves : (bytes : List ℕ) → Leaves (listRead bytes)

@@ -1,4 +1,5 @@
 -- Readers of a lent list: each call gives the number and the value of an outcome, so a refusal writes zeros.
+use mathlib.Core.Bool.{false}
 use lib.Dec.{eqb}
 use lib.ListN.{length}
 use lib.IntN.{pos}
@@ -7,7 +8,7 @@ use Rattle.refusals.specs.Outcome.{answered, changed}
 use Rattle.refusals.proofs.Given.{zeros-on-refusal}
 use Rattle.tables.specs.Entries.{offsetAt, currentOffset, lastUpdate}
 use Rattle.images.specs.Listed.{ofListed}
-use Rattle.plaitgate.specs.Tables.{bit, foundAs, foundCount}
+use Rattle.plaitgate.specs.Tables.{bit, datedAs, withStale, foundAs, foundCount}
 use Rattle.plaitgate.proofs.leap_lists
 use Rattle.demands.specs.RefusalsLeave.{ZerosOnRefusal}
 
@@ -26,5 +27,6 @@ pub current-tai-minus-utc : ZerosOnRefusal leap_lists.plaitgate_list_current_tai
 current-tai-minus-utc κ a k e = zeros-on-refusal (ofListed (now (a .0)) (λ es. answered (currentOffset es)))
 
 pub tai-minus-utc-at : ZerosOnRefusal leap_lists.plaitgate_list_tai_minus_utc_at.Reads.Post
-    (pos 0) (λ κ e. now (e .1 .1 .0))
-tai-minus-utc-at κ a k e = zeros-on-refusal (ofListed (now (a .0)) (λ es. answered (offsetAt es (a .1 .0))))
+    (datedAs (pos 0) 0) (λ κ e. datedAs (now (e .1 .1 .0)) (now (e .1 .1 .1 .0)))
+tai-minus-utc-at κ a k e =
+    zeros-on-refusal (withStale (ofListed (now (a .0)) (λ es. answered (offsetAt es (a .1 .0))), false))

@@ -6,9 +6,10 @@ use denote.Ref.{now}
 use Rattle.refusals.specs.Outcome.{answered, changed}
 use Rattle.refusals.proofs.Given.{zeros-on-refusal}
 use Rattle.tables.specs.Entries.{entry, offsetAt, currentOffset, lastUpdate}
-use Rattle.plaitgate.specs.Tables.{bit, foundAs, foundEntry, foundCount}
+use Rattle.tables.specs.Expiry.{expiryIn}
+use Rattle.plaitgate.specs.Tables.{bit, datedAs, withStale, foundAs, foundEntry, foundCount}
 use Rattle.plaitgate.proofs.leap_tables
-use Rattle.images.specs.Image.{byImage}
+use Rattle.images.specs.Image.{tableIn, byImage, datedByImage}
 use Rattle.demands.specs.RefusalsLeave.{ZerosOnRefusal}
 
 pub len : ZerosOnRefusal leap_tables.plaitgate_table_len.Reads.Post 0 (λ κ e. now (e .1 .0))
@@ -31,5 +32,11 @@ pub current-tai-minus-utc : ZerosOnRefusal leap_tables.plaitgate_table_current_t
 current-tai-minus-utc κ a k e = zeros-on-refusal (byImage (now (a .0)) (λ es. answered (currentOffset es)))
 
 pub tai-minus-utc-at : ZerosOnRefusal leap_tables.plaitgate_table_tai_minus_utc_at.Reads.Post
-    (pos 0) (λ κ e. now (e .1 .1 .0))
-tai-minus-utc-at κ a k e = zeros-on-refusal (byImage (now (a .0)) (λ es. answered (offsetAt es (a .1 .0))))
+    (datedAs (pos 0) 0) (λ κ e. datedAs (now (e .1 .1 .0)) (now (e .1 .1 .1 .0)))
+tai-minus-utc-at κ a k e =
+    zeros-on-refusal (withStale (datedByImage (now (a .0)) (λ es. a .1 .0) (λ es. answered (offsetAt es (a .1 .0)))))
+
+pub expiry : ZerosOnRefusal leap_tables.plaitgate_table_expiry.Reads.Post
+    (foundAs 0 0) (λ κ e. foundAs (now (e .1 .0)) (now (e .1 .1 .0)))
+expiry κ a k e =
+    zeros-on-refusal (changed foundCount (byImage (now (a .0)) (λ es. answered (expiryIn (tableIn (now (a .0)))))))

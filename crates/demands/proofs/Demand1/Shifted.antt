@@ -1,13 +1,16 @@
 -- Written by tools/write-scales from its template in tools/templates.
 -- Scales at a fixed difference from GPS: each call gives the number and the value of an outcome, so a refusal writes
 -- zeros.
+use Prim.Native.Nat.{_+_}
 use denote.Ref.{now}
 use Rattle.refusals.proofs.Given.{zeros-on-refusal}
 use Rattle.counts.specs.Exact.{up, down}
-use Rattle.scales.specs.Scales.{gpsMinusGalileo, gpsMinusBeidou}
-use Rattle.conversions.specs.Shifted.{shiftedToUtc, utcToShifted, shiftedToGlonass, glonassToShifted}
+use Rattle.scales.specs.Scales.{taiMinusGps, gpsMinusGalileo, gpsMinusBeidou}
+use Rattle.conversions.specs.Shifted.{shiftedToUtc, utcToShifted, shiftedReading, shiftedToGlonass, glonassToShifted}
 use Rattle.builtin.specs.Builtin.{builtin}
-use Rattle.images.specs.Image.{byImage}
+use Rattle.images.specs.Image.{datedByImage}
+use Rattle.conversions.specs.Conversions.{glonassEpoch}
+use Rattle.plaitgate.specs.Tables.{datedAs, withStale}
 use Rattle.plaitgate.proofs.galileo_conversions
 use Rattle.plaitgate.proofs.beidou_conversions
 use Rattle.demands.specs.RefusalsLeave.{ZerosOnRefusal}
@@ -36,25 +39,29 @@ pub builtin-glonass-to-galileo : ZerosOnRefusal galileo_conversions.plaitgate_bu
     (λ κ e. now (e .1 .0))
 builtin-glonass-to-galileo κ a k e = zeros-on-refusal (glonassToShifted gpsMinusGalileo builtin (a .0))
 
-pub table-galileo-to-utc : ZerosOnRefusal galileo_conversions.plaitgate_table_galileo_to_utc.Reads.Post 0
-    (λ κ e. now (e .1 .1 .0))
+pub table-galileo-to-utc : ZerosOnRefusal galileo_conversions.plaitgate_table_galileo_to_utc.Reads.Post (datedAs 0 0)
+    (λ κ e. datedAs (now (e .1 .1 .0)) (now (e .1 .1 .1 .0)))
 table-galileo-to-utc κ a k e =
-    zeros-on-refusal (byImage (now (a .1 .0)) (λ es. shiftedToUtc gpsMinusGalileo es (a .0)))
+    zeros-on-refusal
+    (withStale (datedByImage (now (a .1 .0)) (λ es. a .0 + gpsMinusGalileo + taiMinusGps) (λ es. shiftedToUtc gpsMinusGalileo es (a .0))))
 
-pub table-utc-to-galileo : ZerosOnRefusal galileo_conversions.plaitgate_table_utc_to_galileo.Reads.Post 0
-    (λ κ e. now (e .1 .1 .0))
+pub table-utc-to-galileo : ZerosOnRefusal galileo_conversions.plaitgate_table_utc_to_galileo.Reads.Post (datedAs 0 0)
+    (λ κ e. datedAs (now (e .1 .1 .0)) (now (e .1 .1 .1 .0)))
 table-utc-to-galileo κ a k e =
-    zeros-on-refusal (byImage (now (a .1 .0)) (λ es. utcToShifted gpsMinusGalileo es (a .0)))
+    zeros-on-refusal
+    (withStale (datedByImage (now (a .1 .0)) (λ es. shiftedReading gpsMinusGalileo es (a .0)) (λ es. utcToShifted gpsMinusGalileo es (a .0))))
 
-pub table-galileo-to-glonass : ZerosOnRefusal galileo_conversions.plaitgate_table_galileo_to_glonass.Reads.Post 0
-    (λ κ e. now (e .1 .1 .0))
+pub table-galileo-to-glonass : ZerosOnRefusal galileo_conversions.plaitgate_table_galileo_to_glonass.Reads.Post (datedAs 0 0)
+    (λ κ e. datedAs (now (e .1 .1 .0)) (now (e .1 .1 .1 .0)))
 table-galileo-to-glonass κ a k e =
-    zeros-on-refusal (byImage (now (a .1 .0)) (λ es. shiftedToGlonass gpsMinusGalileo es (a .0)))
+    zeros-on-refusal
+    (withStale (datedByImage (now (a .1 .0)) (λ es. a .0 + gpsMinusGalileo + taiMinusGps) (λ es. shiftedToGlonass gpsMinusGalileo es (a .0))))
 
-pub table-glonass-to-galileo : ZerosOnRefusal galileo_conversions.plaitgate_table_glonass_to_galileo.Reads.Post 0
-    (λ κ e. now (e .1 .1 .0))
+pub table-glonass-to-galileo : ZerosOnRefusal galileo_conversions.plaitgate_table_glonass_to_galileo.Reads.Post (datedAs 0 0)
+    (λ κ e. datedAs (now (e .1 .1 .0)) (now (e .1 .1 .1 .0)))
 table-glonass-to-galileo κ a k e =
-    zeros-on-refusal (byImage (now (a .1 .0)) (λ es. glonassToShifted gpsMinusGalileo es (a .0)))
+    zeros-on-refusal
+    (withStale (datedByImage (now (a .1 .0)) (λ es. shiftedReading gpsMinusGalileo es (a .0 + glonassEpoch)) (λ es. glonassToShifted gpsMinusGalileo es (a .0))))
 
 pub beidou-to-gps : ZerosOnRefusal beidou_conversions.plaitgate_beidou_to_gps.Reads.Post 0
     (λ κ e. now (e .1 .0))
@@ -80,22 +87,26 @@ pub builtin-glonass-to-beidou : ZerosOnRefusal beidou_conversions.plaitgate_buil
     (λ κ e. now (e .1 .0))
 builtin-glonass-to-beidou κ a k e = zeros-on-refusal (glonassToShifted gpsMinusBeidou builtin (a .0))
 
-pub table-beidou-to-utc : ZerosOnRefusal beidou_conversions.plaitgate_table_beidou_to_utc.Reads.Post 0
-    (λ κ e. now (e .1 .1 .0))
+pub table-beidou-to-utc : ZerosOnRefusal beidou_conversions.plaitgate_table_beidou_to_utc.Reads.Post (datedAs 0 0)
+    (λ κ e. datedAs (now (e .1 .1 .0)) (now (e .1 .1 .1 .0)))
 table-beidou-to-utc κ a k e =
-    zeros-on-refusal (byImage (now (a .1 .0)) (λ es. shiftedToUtc gpsMinusBeidou es (a .0)))
+    zeros-on-refusal
+    (withStale (datedByImage (now (a .1 .0)) (λ es. a .0 + gpsMinusBeidou + taiMinusGps) (λ es. shiftedToUtc gpsMinusBeidou es (a .0))))
 
-pub table-utc-to-beidou : ZerosOnRefusal beidou_conversions.plaitgate_table_utc_to_beidou.Reads.Post 0
-    (λ κ e. now (e .1 .1 .0))
+pub table-utc-to-beidou : ZerosOnRefusal beidou_conversions.plaitgate_table_utc_to_beidou.Reads.Post (datedAs 0 0)
+    (λ κ e. datedAs (now (e .1 .1 .0)) (now (e .1 .1 .1 .0)))
 table-utc-to-beidou κ a k e =
-    zeros-on-refusal (byImage (now (a .1 .0)) (λ es. utcToShifted gpsMinusBeidou es (a .0)))
+    zeros-on-refusal
+    (withStale (datedByImage (now (a .1 .0)) (λ es. shiftedReading gpsMinusBeidou es (a .0)) (λ es. utcToShifted gpsMinusBeidou es (a .0))))
 
-pub table-beidou-to-glonass : ZerosOnRefusal beidou_conversions.plaitgate_table_beidou_to_glonass.Reads.Post 0
-    (λ κ e. now (e .1 .1 .0))
+pub table-beidou-to-glonass : ZerosOnRefusal beidou_conversions.plaitgate_table_beidou_to_glonass.Reads.Post (datedAs 0 0)
+    (λ κ e. datedAs (now (e .1 .1 .0)) (now (e .1 .1 .1 .0)))
 table-beidou-to-glonass κ a k e =
-    zeros-on-refusal (byImage (now (a .1 .0)) (λ es. shiftedToGlonass gpsMinusBeidou es (a .0)))
+    zeros-on-refusal
+    (withStale (datedByImage (now (a .1 .0)) (λ es. a .0 + gpsMinusBeidou + taiMinusGps) (λ es. shiftedToGlonass gpsMinusBeidou es (a .0))))
 
-pub table-glonass-to-beidou : ZerosOnRefusal beidou_conversions.plaitgate_table_glonass_to_beidou.Reads.Post 0
-    (λ κ e. now (e .1 .1 .0))
+pub table-glonass-to-beidou : ZerosOnRefusal beidou_conversions.plaitgate_table_glonass_to_beidou.Reads.Post (datedAs 0 0)
+    (λ κ e. datedAs (now (e .1 .1 .0)) (now (e .1 .1 .1 .0)))
 table-glonass-to-beidou κ a k e =
-    zeros-on-refusal (byImage (now (a .1 .0)) (λ es. glonassToShifted gpsMinusBeidou es (a .0)))
+    zeros-on-refusal
+    (withStale (datedByImage (now (a .1 .0)) (λ es. shiftedReading gpsMinusBeidou es (a .0 + glonassEpoch)) (λ es. glonassToShifted gpsMinusBeidou es (a .0))))

@@ -10,6 +10,7 @@ use denote.Ref.{now}
 use Rattle.refusals.proofs.Given.{left-on-refusal}
 use Rattle.tables.specs.Entries.{Entry, entry}
 use Rattle.tables.specs.Slots.{tableOf, extended, built}
+use Rattle.tables.specs.Expiry.{expiring}
 use Rattle.tables.specs.declared.LeapTable.{LeapTable}
 use Rattle.tables.proofs.Buildings.{building-refused}
 use Rattle.images.specs.Image.{imageBytes, sized, tableIn, imageOf, stored, builtFrom}
@@ -28,7 +29,7 @@ unwritten : (test : Bool) (written came : List ℕ) (j : ℕ) → Leaves came (c
 unwritten true written came j n = absurd (n refl)
 unwritten false written came j n = refl
 
--- an extension of what an image holds
+-- an extension of what an image holds, or another expiry
 unextended : (test : Bool) (came : List ℕ) (x : ℕ × LeapTable) → Leaves came (cond test (stored came x) (8, came))
 unextended true came x n = unwritten (eqb (x .0) 0) (imageOf (x .1)) came (x .0) n
 unextended false came x n = refl
@@ -48,6 +49,11 @@ pub try-extend : BytesKept leap_tables.plaitgate_table_try_extend.Reads.Post (λ
 try-extend κ a k e =
     let came = now (a .0) in
     left-on-refusal (unextended (sized came) came (extended (tableIn came) (entry (a .1 .0) (a .1 .1 .0))))
+
+pub set-expiry : BytesKept leap_tables.plaitgate_table_set_expiry.Reads.Post (λ κ a. now (a .0)) (λ κ e. now (e .0))
+set-expiry κ a k e =
+    let came = now (a .0) in
+    left-on-refusal (unextended (sized came) came (expiring (tableIn came) (a .1 .0)))
 
 -- a refused building gives the image of the table with no entry
 pub from-entries : (κ : _) (a : _) (k : ℕ) (e : _) → leap_tables.plaitgate_table_from_entries.Reads.Post κ a k e → k ≢ 0
