@@ -1,7 +1,7 @@
 //! What GPS has alone: TAI, and the ways to UTC and Unix time.
 
 use crate::sys;
-use crate::{gps_to_utc, Gps, LeapSeconds, LeapSecondsProvider, Result, Tai, Utc};
+use crate::{gps_to_utc, gps_to_utc_dated, Dated, Gps, LeapSeconds, LeapSecondsProvider, Result, Tai, Utc};
 
 impl Gps {
     /// The TAI count, 19 s more. Refuses with [`Overflow`](crate::Error::Overflow) above 64 bits.
@@ -32,6 +32,11 @@ impl Gps {
         gps_to_utc(self, table)
     }
 
+    /// As [`to_utc_with`](Gps::to_utc_with), and whether the table has expired.
+    pub fn to_utc_dated<P: LeapSecondsProvider>(self, table: &P) -> Result<Dated<Utc>> {
+        gps_to_utc_dated(self, table)
+    }
+
     /// The GPS count of seconds since 1970-01-01, by way of UTC.
     ///
     /// ```
@@ -40,11 +45,21 @@ impl Gps {
     /// assert_eq!(Gps::from_unix_seconds(315_964_800, LeapSeconds::builtin()), Ok(Gps::EPOCH));
     /// ```
     pub fn from_unix_seconds<P: LeapSecondsProvider>(unix_seconds: i64, table: P) -> Result<Self> {
-        table.gps_from_unix_seconds(unix_seconds).map(Gps)
+        Self::from_unix_seconds_dated(unix_seconds, table).map(Dated::into_value)
+    }
+
+    /// As [`from_unix_seconds`](Gps::from_unix_seconds), and whether the table has expired.
+    pub fn from_unix_seconds_dated<P: LeapSecondsProvider>(unix_seconds: i64, table: P) -> Result<Dated<Self>> {
+        table.gps_from_unix_seconds(unix_seconds).map(|answer| answer.map(Gps))
     }
 
     /// The whole seconds since 1970-01-01, by way of UTC. Refuses as [`gps_to_utc`].
     pub fn as_unix_seconds<P: LeapSecondsProvider>(self, table: P) -> Result<i64> {
+        self.as_unix_seconds_dated(table).map(Dated::into_value)
+    }
+
+    /// As [`as_unix_seconds`](Gps::as_unix_seconds), and whether the table has expired.
+    pub fn as_unix_seconds_dated<P: LeapSecondsProvider>(self, table: P) -> Result<Dated<i64>> {
         table.gps_as_unix_seconds(self.0)
     }
 }

@@ -23,8 +23,11 @@
 //! A program that uses gnss-time moves over by its imports: [`Time`], [`GnssTimeError`], [`LeapExtendError`] and
 //! [`RuntimeLeapSeconds`] are here as other names. docs/MOVING.md has the calls side by side.
 //!
-//! The library is `libplaitgate.a`. build.rs links the one in the folder that the variable `PLAITGATE_LIB_DIR` names, else
-//! the one that Plaitgate's tools make in this repository, anew whenever a source of the library has changed.
+//! A table that was read from a file goes stale on the date that the file gives. The calls by a table with `dated` in
+//! their names say so, together with the count ([`Dated`]).
+//!
+//! The library is `libplaitgate.a`. build.rs links the one in the folder that the variable `PLAITGATE_LIB_DIR` names,
+//! else the one that Plaitgate's tools make in this repository, anew whenever a source of the library has changed.
 
 #![cfg_attr(not(any(feature = "std", test)), no_std)]
 #![warn(missing_debug_implementations, unused_must_use)]
@@ -32,12 +35,15 @@
 
 mod civil;
 mod convert;
+mod dated;
 mod duration;
+mod entry;
 mod epoch;
 mod error;
 mod glonass;
 mod gps;
 mod list;
+mod provider;
 mod scale;
 mod shifted;
 #[allow(unsafe_code)]
@@ -48,14 +54,20 @@ mod weeks;
 
 pub use civil::{CivilDate, CivilDateTime};
 pub use convert::{glonass_to_gps, glonass_to_utc, gps_to_glonass, gps_to_utc, utc_to_glonass, utc_to_gps};
+pub use convert::{glonass_to_gps_dated, gps_to_glonass_dated, gps_to_utc_dated, utc_to_gps_dated};
+pub use dated::Dated;
 pub use duration::{Duration, DurationParts};
+pub use entry::LeapEntry;
 pub use epoch::*;
 pub use error::{Error, ListError, Result};
 pub use list::LeapList;
+pub use provider::{LeapSeconds, LeapSecondsProvider};
 pub use scale::{Beidou, Galileo, Glonass, Gps, Tai, Utc};
 pub use shifted::{beidou_to_glonass, beidou_to_utc, glonass_to_beidou, utc_to_beidou};
+pub use shifted::{beidou_to_glonass_dated, beidou_to_utc_dated, glonass_to_beidou_dated, utc_to_beidou_dated};
 pub use shifted::{galileo_to_glonass, galileo_to_utc, glonass_to_galileo, utc_to_galileo};
-pub use table::{LeapEntry, LeapSeconds, LeapSecondsProvider, LeapTable, RUNTIME_CAPACITY};
+pub use shifted::{galileo_to_glonass_dated, galileo_to_utc_dated, glonass_to_galileo_dated, utc_to_galileo_dated};
+pub use table::{LeapTable, RUNTIME_CAPACITY};
 
 /// gnss-time's name of a count of the scale `S`: `Time<Gps>` is [`Gps`].
 ///

@@ -1,10 +1,10 @@
 //! A list of entries that a rack lends as bytes.
 
 use crate::sys::{self, always};
-use crate::{Result, Tai};
+use crate::{Dated, Result, Tai};
 
-/// A list of entries, of any length, where the rack holds it: 12 bytes for each, 8 of the threshold and 4 of the offset,
-/// low byte first. It is checked once, and looked up in place; nothing is copied.
+/// A list of entries, of any length, where the rack holds it: 12 bytes for each, 8 of the threshold and 4 of the
+/// offset, low byte first. It is checked once, and looked up in place; nothing is copied. It has no expiry.
 ///
 /// ```
 /// use plaitgate::{Error, LeapEntry, LeapList, Tai};
@@ -26,8 +26,8 @@ pub struct LeapList<'a> {
 
 impl<'a> LeapList<'a> {
     /// The list in these bytes. Refuses with [`BadTable`](crate::Error::BadTable) where they are no whole number of
-    /// entries, with [`EmptyTable`](crate::Error::EmptyTable) where there are none, then for the first entry that cannot
-    /// follow the one before it, as [`LeapTable::try_extend`](crate::LeapTable::try_extend); there is no limit.
+    /// entries, with [`EmptyTable`](crate::Error::EmptyTable) where there are none, then for the first entry that
+    /// cannot follow the one before it, as [`LeapTable::try_extend`](crate::LeapTable::try_extend); there is no limit.
     pub fn try_from_slice(entries: &'a [u8]) -> Result<Self> {
         sys::list_check(entries)?;
         Ok(LeapList { entries })
@@ -69,6 +69,12 @@ impl<'a> LeapList<'a> {
     /// before the first threshold.
     #[must_use]
     pub fn tai_minus_utc_at(&self, tai: Tai) -> i32 {
-        always(sys::list_tai_minus_utc_at(self.entries, tai.as_nanos()))
+        self.tai_minus_utc_at_dated(tai).value
+    }
+
+    /// As [`tai_minus_utc_at`](LeapList::tai_minus_utc_at). It is never stale, since the list has no expiry.
+    #[must_use]
+    pub fn tai_minus_utc_at_dated(&self, tai: Tai) -> Dated<i32> {
+        Dated::of(always(sys::list_tai_minus_utc_at(self.entries, tai.as_nanos())))
     }
 }

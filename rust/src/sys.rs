@@ -2,18 +2,35 @@
 //!
 //! Outside this module there are only numbers, arrays and `Result`s.
 
-// Functions whose answer is a constant, or the input as it came, are called by the tests alone: outside they are `const`.
+// Functions whose answer is a constant, or the input as it came, are called by the tests alone: outside they are
+// `const`.
 // In the macros a single result stands in parentheses, as several do.
 #![allow(dead_code, unused_parens)]
 
-use crate::{Error, ListError, Result};
+use crate::{Error, Result};
 
 #[cfg(test)]
 mod tests;
+mod writing;
 
-/// The bytes of a leap-second table: its length, 64 thresholds and 64 offsets.
+pub use writing::*;
+
+/// The bytes of a leap-second table: its length, 64 thresholds, 64 offsets and the expiry.
 pub type Image = [u8; IMAGE_BYTES];
-pub const IMAGE_BYTES: usize = 776;
+pub const IMAGE_BYTES: usize = 784;
+const EXPIRY_AT: usize = 776;
+
+/// The image of the table with no entry and no expiry, which `table_new` writes (tests). The expiry is the largest
+/// count.
+pub const NO_ENTRY: Image = {
+    let mut image = [0; IMAGE_BYTES];
+    let mut place = EXPIRY_AT;
+    while place < IMAGE_BYTES {
+        image[place] = 0xff;
+        place += 1;
+    }
+    image
+};
 
 /// The bytes of one entry in a list: 8 of the threshold, then 4 of the offset, low byte first.
 pub const ENTRY_BYTES: usize = 12;
@@ -71,7 +88,8 @@ macro_rules! of_numbers {
     };
 }
 
-/// Functions that read a table or a list: `name(inputs)(bytes: &[u8])(inputs) -> (results)`, the bytes where C has them.
+/// Functions that read a table or a list: `name(inputs)(bytes: &[u8])(inputs) -> (results)`, the bytes where C has
+/// them.
 macro_rules! of_bytes {
     ($declared:ident: $($name:ident($($before:ident: $early:ty),*)($bytes:ident: $lent:ty)($($after:ident: $late:ty),*)
         -> ($($result:ident: $written:ty),*);)*) => {
@@ -239,18 +257,20 @@ of_numbers! { declared_of_numbers:
 }
 
 of_bytes! { declared_of_images:
-    table_len()(image: &Image)() -> (len: u64);
+    // this one takes any bytes, so that the library says whether stored ones are an image
+    table_len()(image: &[u8])() -> (len: u64);
     table_is_empty()(image: &Image)() -> (yes: u8);
     table_entry_at()(image: &Image)(place: u64) -> (found: u8, tai_nanos: u64, tai_minus_utc: i32);
     table_last_update()(image: &Image)() -> (found: u8, tai: u64);
+    table_expiry()(image: &Image)() -> (found: u8, tai: u64);
     table_current_tai_minus_utc()(image: &Image)() -> (offset: i32);
-    table_tai_minus_utc_at()(image: &Image)(tai: u64) -> (offset: i32);
-    table_gps_to_utc(gps: u64)(image: &Image)() -> (utc: u64);
-    table_utc_to_gps(utc: u64)(image: &Image)() -> (gps: u64);
-    table_glonass_to_gps(glonass: u64)(image: &Image)() -> (gps: u64);
-    table_gps_to_glonass(gps: u64)(image: &Image)() -> (glonass: u64);
-    table_gps_from_unix_seconds(seconds: i64)(image: &Image)() -> (gps: u64);
-    table_gps_as_unix_seconds(gps: u64)(image: &Image)() -> (seconds: i64);
+    table_tai_minus_utc_at()(image: &Image)(tai: u64) -> (offset: i32, stale: u8);
+    table_gps_to_utc(gps: u64)(image: &Image)() -> (utc: u64, stale: u8);
+    table_utc_to_gps(utc: u64)(image: &Image)() -> (gps: u64, stale: u8);
+    table_glonass_to_gps(glonass: u64)(image: &Image)() -> (gps: u64, stale: u8);
+    table_gps_to_glonass(gps: u64)(image: &Image)() -> (glonass: u64, stale: u8);
+    table_gps_from_unix_seconds(seconds: i64)(image: &Image)() -> (gps: u64, stale: u8);
+    table_gps_as_unix_seconds(gps: u64)(image: &Image)() -> (seconds: i64, stale: u8);
 }
 
 of_bytes! { declared_of_lists:
@@ -259,7 +279,7 @@ of_bytes! { declared_of_lists:
     list_is_empty()(entries: &[u8])() -> (yes: u8);
     list_last_update()(entries: &[u8])() -> (found: u8, tai: u64);
     list_current_tai_minus_utc()(entries: &[u8])() -> (offset: i32);
-    list_tai_minus_utc_at()(entries: &[u8])(tai: u64) -> (offset: i32);
+    list_tai_minus_utc_at()(entries: &[u8])(tai: u64) -> (offset: i32, stale: u8);
 }
 
 // shifted scales, by tools/write-scales
@@ -279,87 +299,18 @@ of_numbers! { declared_of_shifted_scales:
 }
 
 of_bytes! { declared_of_shifted_scales_by_images:
-    table_galileo_to_utc(galileo: u64)(image: &Image)() -> (utc: u64);
-    table_utc_to_galileo(utc: u64)(image: &Image)() -> (galileo: u64);
-    table_galileo_to_glonass(galileo: u64)(image: &Image)() -> (glonass: u64);
-    table_glonass_to_galileo(glonass: u64)(image: &Image)() -> (galileo: u64);
-    table_beidou_to_utc(beidou: u64)(image: &Image)() -> (utc: u64);
-    table_utc_to_beidou(utc: u64)(image: &Image)() -> (beidou: u64);
-    table_beidou_to_glonass(beidou: u64)(image: &Image)() -> (glonass: u64);
-    table_glonass_to_beidou(glonass: u64)(image: &Image)() -> (beidou: u64);
+    table_galileo_to_utc(galileo: u64)(image: &Image)() -> (utc: u64, stale: u8);
+    table_utc_to_galileo(utc: u64)(image: &Image)() -> (galileo: u64, stale: u8);
+    table_galileo_to_glonass(galileo: u64)(image: &Image)() -> (glonass: u64, stale: u8);
+    table_glonass_to_galileo(glonass: u64)(image: &Image)() -> (galileo: u64, stale: u8);
+    table_beidou_to_utc(beidou: u64)(image: &Image)() -> (utc: u64, stale: u8);
+    table_utc_to_beidou(utc: u64)(image: &Image)() -> (beidou: u64, stale: u8);
+    table_beidou_to_glonass(beidou: u64)(image: &Image)() -> (glonass: u64, stale: u8);
+    table_glonass_to_beidou(glonass: u64)(image: &Image)() -> (beidou: u64, stale: u8);
 }
 // end of shifted scales
 
 of_numbers! { declared_of_two_shifted_scales:
     galileo_to_beidou(galileo: u64) -> (beidou: u64);
     beidou_to_galileo(beidou: u64) -> (galileo: u64);
-}
-
-/// The five functions that write an image.
-mod writing {
-    extern "C" {
-        pub fn plaitgate_table_new(image: *mut u8, image_bytes: usize) -> u32;
-        pub fn plaitgate_table_from_builtin(image: *mut u8, image_bytes: usize) -> u32;
-        pub fn plaitgate_table_from_entries(
-            entries: *const u8,
-            entries_bytes: usize,
-            image: *mut u8,
-            image_bytes: usize,
-        ) -> u32;
-        pub fn plaitgate_read_leap_list(
-            list: *const u8,
-            list_bytes: usize,
-            image: *mut u8,
-            image_bytes: usize,
-            line: *mut u64,
-        ) -> u32;
-        pub fn plaitgate_table_try_extend(
-            image: *mut u8,
-            image_bytes: usize,
-            tai_nanos: u64,
-            tai_minus_utc: i32,
-        ) -> u32;
-    }
-}
-
-pub fn table_new() -> Result<Image> {
-    let mut image = [0; IMAGE_BYTES];
-    // SAFETY: the image is this function's own, has as many bytes as are said, and outlives the call.
-    let number = unsafe { writing::plaitgate_table_new(image.as_mut_ptr(), image.len()) };
-    answer(number, image)
-}
-
-pub fn table_from_builtin() -> Result<Image> {
-    let mut image = [0; IMAGE_BYTES];
-    // SAFETY: the image is this function's own, has as many bytes as are said, and outlives the call.
-    let number = unsafe { writing::plaitgate_table_from_builtin(image.as_mut_ptr(), image.len()) };
-    answer(number, image)
-}
-
-pub fn table_from_entries(entries: &[u8]) -> Result<Image> {
-    let mut image = [0; IMAGE_BYTES];
-    // SAFETY: the list is lent and the image is this function's own, so that they do not overlap; both have as many
-    // bytes as are said and outlive the call. A slice's pointer is never null.
-    let number = unsafe {
-        writing::plaitgate_table_from_entries(entries.as_ptr(), entries.len(), image.as_mut_ptr(), image.len())
-    };
-    answer(number, image)
-}
-
-pub fn read_leap_list(list: &[u8]) -> Result<Image, ListError> {
-    let mut image = [0; IMAGE_BYTES];
-    let mut line = 0;
-    // SAFETY: the list is lent, and the image and the line are this function's own, so that they do not overlap; list
-    // and image have as many bytes as are said, and all outlive the call. A slice's pointer is never null.
-    let number = unsafe {
-        writing::plaitgate_read_leap_list(list.as_ptr(), list.len(), image.as_mut_ptr(), image.len(), &mut line)
-    };
-    answer(number, image).map_err(|error| ListError::new(error, line))
-}
-
-pub fn table_try_extend(image: &mut Image, tai_nanos: u64, tai_minus_utc: i32) -> Result<()> {
-    // SAFETY: the image is lent for change to this call alone and has as many bytes as are said.
-    let number =
-        unsafe { writing::plaitgate_table_try_extend(image.as_mut_ptr(), image.len(), tai_nanos, tai_minus_utc) };
-    answer(number, ())
 }

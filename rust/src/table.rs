@@ -1,65 +1,19 @@
 //! Leap-second tables: the rack's own, and the built-in one.
 
-use crate::sys::{self, always, Image, ENTRY_BYTES, IMAGE_BYTES};
-use crate::{CivilDate, ListError, Result, Tai};
+use crate::sys::{self, always, Image, ENTRY_BYTES};
+use crate::{Dated, Error, LeapEntry, ListError, Result, Tai};
 use core::fmt;
 
 /// How many entries a table has room for.
 pub const RUNTIME_CAPACITY: usize = 64;
 
-/// An entry of a table: a TAI count, and TAI minus UTC in seconds from then on.
-#[derive(Debug, Clone, Copy, PartialEq, Eq, Hash)]
-pub struct LeapEntry {
-    pub tai_nanos: u64,
-    pub tai_minus_utc: i32,
-}
-
-impl LeapEntry {
-    #[inline]
-    #[must_use]
-    pub const fn new(tai_nanos: u64, tai_minus_utc: i32) -> Self {
-        LeapEntry { tai_nanos, tai_minus_utc }
-    }
-
-    /// The entry of a leap-second event: the UTC date that begins with the new offset, and that offset, as IERS
-    /// Bulletin C gives them. Any fields make a date. Refuses with [`Overflow`](crate::Error::Overflow) before
-    /// 1972-01-01, where the date is past the last UTC count, and where the threshold is no count.
-    ///
-    /// Do not make the threshold of the date's UTC count: that count is the inserted second's too, and
-    /// [`to_gps`](crate::Utc::to_gps) gives the first of the two, a second before the threshold.
-    ///
-    /// ```
-    /// use plaitgate::{CivilDate, CivilDateTime, Error, LeapEntry, LeapTable};
-    ///
-    /// let last = LeapEntry::of_event(CivilDate::new(2017, 1, 1), 37)?;
-    /// assert_eq!(last, LeapEntry::new(1_167_264_037_000_000_000, 37));
-    /// assert_eq!(LeapTable::builtin().entries().last(), Some(last));
-    ///
-    /// let midnight = CivilDateTime { year: 2017, month: 1, day: 1, hour: 0, minute: 0, second: 0, nanos: 0 };
-    /// assert_eq!(midnight.to_utc()?.to_gps()?.to_tai()?.as_nanos(), last.tai_nanos - 1_000_000_000);
-    ///
-    /// assert_eq!(LeapEntry::of_event(CivilDate::new(1971, 12, 31), 10), Err(Error::Overflow));
-    /// # Ok::<(), plaitgate::Error>(())
-    /// ```
-    pub fn of_event(date: CivilDate, tai_minus_utc: i32) -> Result<Self> {
-        let tai_nanos = sys::entry_of_event(date.year, date.month, date.day, tai_minus_utc)?;
-        Ok(LeapEntry { tai_nanos, tai_minus_utc })
-    }
-
-    /// The entry in a list of bytes ([`LeapList`](crate::LeapList)): 8 of the threshold, 4 of the offset, low byte first.
-    #[must_use]
-    pub fn to_bytes(self) -> [u8; 12] {
-        let mut bytes = [0; ENTRY_BYTES];
-        bytes[..8].copy_from_slice(&self.tai_nanos.to_le_bytes());
-        bytes[8..].copy_from_slice(&self.tai_minus_utc.to_le_bytes());
-        bytes
-    }
-}
-
 /// A leap-second table of up to 64 entries, which a rack keeps and extends itself.
 ///
-/// It is always valid: thresholds rise, offsets rise by one. It holds its image, 776 bytes that can be stored and read
+/// It is always valid: thresholds rise, offsets rise by one. It holds its image, 784 bytes that can be stored and read
 /// back with [`from_image`](LeapTable::from_image), and no other memory.
+///
+/// A table may have an [`expiry`](LeapTable::expiry), as one that was read from a file: from then on leap seconds may
+/// be missing in it. The calls with `dated` in their names tell whether it has expired ([`Dated`]).
 ///
 /// ```
 /// use plaitgate::{CivilDate, Error, LeapEntry, LeapTable};
@@ -78,23 +32,22 @@ impl LeapEntry {
 /// ```
 #[derive(Clone, PartialEq, Eq, Hash)]
 pub struct LeapTable {
-    image: Image,
+    pub(crate) image: Image,
 }
 
 impl LeapTable {
-    /// The table with no entry: TAI minus UTC is 19 s throughout.
+    /// The table with no entry and no expiry: TAI minus UTC is 19 s throughout.
     #[inline]
     #[must_use]
     pub const fn new() -> Self {
-        // what plaitgate_table_new writes (sys::tests)
-        LeapTable { image: [0; IMAGE_BYTES] }
+        LeapTable { image: sys::NO_ENTRY }
     }
 
     /// A copy of the built-in table: 19 entries, up to the leap second at the end of 2016.
     #[must_use]
     pub fn builtin() -> Self {
         let written = sys::table_from_builtin();
-        debug_assert!(written.is_ok(), "a place of 776 bytes is not refused");
+        debug_assert!(written.is_ok(), "a place of 784 bytes is not refused");
         written.map_or(Self::new(), |image| LeapTable { image })
     }
 
@@ -121,18 +74,20 @@ impl LeapTable {
 
     /// The table of a leap-seconds.list as the IERS publishes it, from the bytes of the whole file.
     ///
-    /// A line that begins with `#` is a comment; a line of spaces and tabs, or of nothing, is passed over; every other
-    /// line is the NTP second at which an offset begins, and the offset, and may end with a comment. The first line
-    /// with the offset 19 becomes the entry (0, 19), and each line after it an entry; lines before it are checked and
-    /// dropped. The file's expiry date and hash code are in comments, and are not checked.
+    /// A line that begins with `#@` is the NTP second from which on the file is out of date, the table's
+    /// [`expiry`](LeapTable::expiry); any other line that begins with `#` is a comment; a line of spaces and tabs, or
+    /// of nothing, is passed over; every other line is the NTP second at which an offset begins, and the offset, and
+    /// may end with a comment. The first line with the offset 19 becomes the entry (0, 19), and each line after it an
+    /// entry; lines before it are checked and dropped. The file's hash code is in a comment, and is not checked.
     ///
     /// ```
-    /// use plaitgate::{LeapEntry, LeapTable};
+    /// use plaitgate::{LeapEntry, LeapTable, Tai};
     ///
-    /// let list = b"# NTP second, TAI minus UTC\n2524521600 19 # 1 Jan 1980\n2571782400 20 # 1 Jul 1981\n";
+    /// let list = b"#@ 2572000000\n2524521600 19 # 1 Jan 1980\n2571782400 20 # 1 Jul 1981\n";
     /// let table = LeapTable::from_leap_seconds_list(list)?;
     /// assert_eq!(table.entry(0), Some(LeapEntry::new(0, 19)));
     /// assert_eq!(table.entry(1), Some(LeapEntry::new(46_828_820_000_000_000, 20)));
+    /// assert_eq!(table.expiry(), Some(Tai::from_nanos(47_046_420_000_000_000)));
     ///
     /// let refused = LeapTable::from_leap_seconds_list(b"# NTP second, TAI minus UTC\n2524521600 19s\n").unwrap_err();
     /// assert_eq!(refused.line(), Some(2));
@@ -140,11 +95,12 @@ impl LeapTable {
     /// ```
     ///
     /// Refuses, in this order: with [`BadList`](crate::Error::BadList) where there are more than 65,536 bytes, where a
-    /// line is malformed, which is named, or where lines have offsets and none is 19; with
-    /// [`EmptyTable`](crate::Error::EmptyTable) where no line has an offset; with
-    /// [`Overflow`](crate::Error::Overflow) where a threshold is no count; with [`BufferFull`](crate::Error::BufferFull) for more than 64 entries; then for the first line
-    /// that cannot follow the one before it, as [`try_extend`](LeapTable::try_extend), where lines up to the first 19
-    /// are compared by their NTP seconds. A line that ends with CR is malformed: a file with CR LF is refused at line 1.
+    /// line is malformed or a second `#@` line, which is named, or where lines have offsets and none is 19; with
+    /// [`EmptyTable`](crate::Error::EmptyTable) where no line has an offset; with [`Overflow`](crate::Error::Overflow)
+    /// where a threshold or the expiry is no count; with [`BufferFull`](crate::Error::BufferFull) for more than 64
+    /// entries; then for the first line that cannot follow the one before it, as
+    /// [`try_extend`](LeapTable::try_extend), where lines up to the first 19 are compared by their NTP seconds. A line
+    /// that ends with CR is malformed: a file with CR LF is refused at line 1.
     pub fn from_leap_seconds_list(bytes: &[u8]) -> Result<Self, ListError> {
         let image = sys::read_leap_list(bytes)?;
         Ok(LeapTable { image })
@@ -162,6 +118,7 @@ impl LeapTable {
     }
 
     /// The table in an image. Refuses with [`BadTable`](crate::Error::BadTable) where the bytes hold no valid one.
+    /// Bytes of any number are taken by `LeapTable::try_from`, which refuses another number than 784 alike.
     ///
     /// ```
     /// use plaitgate::{Error, LeapTable};
@@ -171,16 +128,16 @@ impl LeapTable {
     /// image[0] = 65;
     /// assert_eq!(LeapTable::from_image(image), Err(Error::BadTable));
     /// ```
-    pub fn from_image(image: [u8; 776]) -> Result<Self> {
+    pub fn from_image(image: [u8; 784]) -> Result<Self> {
         sys::table_len(&image)?;
         Ok(LeapTable { image })
     }
 
-    /// The image: bytes 0 to 7 the number of entries, 8 to 519 the thresholds, 520 to 775 the offsets, each number low
-    /// byte first.
+    /// The image: bytes 0 to 7 the number of entries, 8 to 519 the thresholds, 520 to 775 the offsets, 776 to 783 the
+    /// expiry, each number low byte first.
     #[inline]
     #[must_use]
-    pub const fn as_image(&self) -> &[u8; 776] {
+    pub const fn as_image(&self) -> &[u8; 784] {
         &self.image
     }
 
@@ -189,7 +146,7 @@ impl LeapTable {
     /// [`NotStrictlyAscending`](crate::Error::NotStrictlyAscending) where the threshold is not above the last, with
     /// [`OffsetOverflow`](crate::Error::OffsetOverflow) where the last offset is 2,147,483,647, and with
     /// [`NonUnitIncrement`](crate::Error::NonUnitIncrement) where the offset is not one more, in this order. On a
-    /// refusal the table is as it was.
+    /// refusal the table is as it was. The expiry stays.
     pub fn try_extend(&mut self, entry: LeapEntry) -> Result<()> {
         sys::table_try_extend(&mut self.image, entry.tai_nanos, entry.tai_minus_utc)
     }
@@ -226,6 +183,29 @@ impl LeapTable {
         (found != 0).then_some(Tai::from_nanos(tai))
     }
 
+    /// The TAI count from which on leap seconds may be missing in the table; none where it does not go stale.
+    #[must_use]
+    pub fn expiry(&self) -> Option<Tai> {
+        let (found, tai) = always(sys::table_expiry(&self.image));
+        (found != 0).then_some(Tai::from_nanos(tai))
+    }
+
+    /// The table with this expiry in place of its own. `None` takes the expiry away, and so does [`Tai::MAX`], which
+    /// means none.
+    ///
+    /// ```
+    /// use plaitgate::{LeapTable, Tai};
+    ///
+    /// let table = LeapTable::builtin().with_expiry(Some(Tai::from_nanos(1_500_000_000_000_000_000)));
+    /// assert_eq!(table.expiry(), Some(Tai::from_nanos(1_500_000_000_000_000_000)));
+    /// assert_eq!(table.with_expiry(None), LeapTable::builtin());
+    /// ```
+    #[must_use]
+    pub fn with_expiry(mut self, expiry: Option<Tai>) -> Self {
+        always(sys::table_set_expiry(&mut self.image, expiry.unwrap_or(Tai::MAX).as_nanos()));
+        self
+    }
+
     /// The last offset, or 19 where there is no entry.
     #[must_use]
     pub fn current_tai_minus_utc(&self) -> i32 {
@@ -236,7 +216,39 @@ impl LeapTable {
     /// before the first threshold, 19 where there is no entry.
     #[must_use]
     pub fn tai_minus_utc_at(&self, tai: Tai) -> i32 {
-        always(sys::table_tai_minus_utc_at(&self.image, tai.as_nanos()))
+        self.tai_minus_utc_at_dated(tai).value
+    }
+
+    /// As [`tai_minus_utc_at`](LeapTable::tai_minus_utc_at), and whether the table has expired at that count.
+    ///
+    /// ```
+    /// use plaitgate::{Dated, LeapTable, Tai};
+    ///
+    /// let table = LeapTable::new().with_expiry(Some(Tai::from_nanos(5)));
+    /// assert_eq!(table.tai_minus_utc_at_dated(Tai::from_nanos(4)), Dated { value: 19, stale: false });
+    /// assert_eq!(table.tai_minus_utc_at_dated(Tai::from_nanos(5)), Dated { value: 19, stale: true });
+    /// ```
+    #[must_use]
+    pub fn tai_minus_utc_at_dated(&self, tai: Tai) -> Dated<i32> {
+        Dated::of(always(sys::table_tai_minus_utc_at(&self.image, tai.as_nanos())))
+    }
+}
+
+/// The table in stored bytes of any number.
+///
+/// ```
+/// use plaitgate::{Error, LeapTable};
+///
+/// let stored = LeapTable::builtin().as_image().to_vec();
+/// assert_eq!(LeapTable::try_from(&stored[..]), Ok(LeapTable::builtin()));
+/// assert_eq!(LeapTable::try_from(&stored[..776]), Err(Error::BadTable));
+/// ```
+impl TryFrom<&[u8]> for LeapTable {
+    type Error = Error;
+
+    fn try_from(bytes: &[u8]) -> Result<Self> {
+        sys::table_len(bytes)?;
+        bytes.try_into().map(|image| LeapTable { image }).map_err(|_| Error::BadTable)
     }
 }
 
@@ -246,115 +258,12 @@ impl Default for LeapTable {
     }
 }
 
+/// The entries, and before them the expiry, where there is one.
 impl fmt::Debug for LeapTable {
     fn fmt(&self, f: &mut fmt::Formatter<'_>) -> fmt::Result {
+        if let Some(expiry) = self.expiry() {
+            write!(f, "expires {}: ", expiry.as_nanos())?;
+        }
         f.debug_list().entries(self.entries()).finish()
-    }
-}
-
-/// The built-in table, which stands in the library: conversions by it copy nothing.
-///
-/// ```
-/// use plaitgate::{LeapSeconds, Tai};
-///
-/// assert_eq!(LeapSeconds::builtin().tai_minus_utc_at(Tai::MAX), 37);
-/// ```
-#[derive(Debug, Clone, Copy, PartialEq, Eq, Hash)]
-pub struct LeapSeconds(());
-
-impl LeapSeconds {
-    /// The built-in table.
-    #[must_use]
-    pub const fn builtin() -> &'static Self {
-        &LeapSeconds(())
-    }
-
-    /// The offset in force at a TAI count, 19 to 37.
-    #[must_use]
-    pub fn tai_minus_utc_at(&self, tai: Tai) -> i32 {
-        always(sys::builtin_tai_minus_utc_at(tai.as_nanos()))
-    }
-}
-
-/// What a conversion can go by: a [`LeapTable`], the built-in table [`LeapSeconds`], or a reference to one.
-///
-/// The library looks tables up itself, so no other type can be one.
-pub trait LeapSecondsProvider: by_table::Conversions {
-    /// TAI minus UTC in seconds at a TAI count.
-    fn tai_minus_utc_at(&self, tai: Tai) -> i32;
-}
-
-impl LeapSecondsProvider for LeapTable {
-    fn tai_minus_utc_at(&self, tai: Tai) -> i32 {
-        LeapTable::tai_minus_utc_at(self, tai)
-    }
-}
-
-impl LeapSecondsProvider for LeapSeconds {
-    fn tai_minus_utc_at(&self, tai: Tai) -> i32 {
-        LeapSeconds::tai_minus_utc_at(self, tai)
-    }
-}
-
-impl<P: LeapSecondsProvider> LeapSecondsProvider for &P {
-    fn tai_minus_utc_at(&self, tai: Tai) -> i32 {
-        (**self).tai_minus_utc_at(tai)
-    }
-}
-
-mod by_table {
-    use super::{sys, LeapSeconds, LeapTable, Result};
-
-    /// The conversions on plain counts, by the table at hand.
-    macro_rules! conversions {
-        ($($name:ident by $table:ident, $builtin:ident: $given:ty => $result:ty;)*) => {
-            pub trait Conversions {
-                $(fn $name(&self, given: $given) -> Result<$result>;)*
-            }
-
-            impl Conversions for LeapTable {
-                $(
-                    #[inline]
-                    fn $name(&self, given: $given) -> Result<$result> {
-                        sys::$table(given, &self.image)
-                    }
-                )*
-            }
-
-            impl Conversions for LeapSeconds {
-                $(
-                    #[inline]
-                    fn $name(&self, given: $given) -> Result<$result> {
-                        sys::$builtin(given)
-                    }
-                )*
-            }
-
-            impl<P: Conversions> Conversions for &P {
-                $(
-                    #[inline]
-                    fn $name(&self, given: $given) -> Result<$result> {
-                        (**self).$name(given)
-                    }
-                )*
-            }
-        };
-    }
-
-    conversions! {
-        gps_to_utc by table_gps_to_utc, builtin_gps_to_utc: u64 => u64;
-        utc_to_gps by table_utc_to_gps, builtin_utc_to_gps: u64 => u64;
-        glonass_to_gps by table_glonass_to_gps, builtin_glonass_to_gps: u64 => u64;
-        gps_to_glonass by table_gps_to_glonass, builtin_gps_to_glonass: u64 => u64;
-        gps_from_unix_seconds by table_gps_from_unix_seconds, builtin_gps_from_unix_seconds: i64 => u64;
-        gps_as_unix_seconds by table_gps_as_unix_seconds, builtin_gps_as_unix_seconds: u64 => i64;
-        galileo_to_utc by table_galileo_to_utc, builtin_galileo_to_utc: u64 => u64;
-        utc_to_galileo by table_utc_to_galileo, builtin_utc_to_galileo: u64 => u64;
-        galileo_to_glonass by table_galileo_to_glonass, builtin_galileo_to_glonass: u64 => u64;
-        glonass_to_galileo by table_glonass_to_galileo, builtin_glonass_to_galileo: u64 => u64;
-        beidou_to_utc by table_beidou_to_utc, builtin_beidou_to_utc: u64 => u64;
-        utc_to_beidou by table_utc_to_beidou, builtin_utc_to_beidou: u64 => u64;
-        beidou_to_glonass by table_beidou_to_glonass, builtin_beidou_to_glonass: u64 => u64;
-        glonass_to_beidou by table_glonass_to_beidou, builtin_glonass_to_beidou: u64 => u64;
     }
 }

@@ -1,7 +1,7 @@
 //! What UTC has alone: Unix time, civil times, and the way to GPS.
 
 use crate::sys::{self, always};
-use crate::{utc_to_gps, CivilDateTime, Gps, LeapSeconds, LeapSecondsProvider, Result, Utc};
+use crate::{utc_to_gps, utc_to_gps_dated, CivilDateTime, Dated, Gps, LeapSeconds, LeapSecondsProvider, Result, Utc};
 
 impl Utc {
     /// The count of seconds since 1970-01-01. Refuses with [`Overflow`](crate::Error::Overflow) below
@@ -38,6 +38,11 @@ impl Utc {
     /// The GPS count by a table: see [`utc_to_gps`].
     pub fn to_gps_with<P: LeapSecondsProvider>(self, table: &P) -> Result<Gps> {
         utc_to_gps(self, table)
+    }
+
+    /// As [`to_gps_with`](Utc::to_gps_with), and whether the table has expired.
+    pub fn to_gps_dated<P: LeapSecondsProvider>(self, table: &P) -> Result<Dated<Gps>> {
+        utc_to_gps_dated(self, table)
     }
 
     /// The date and the time of day.

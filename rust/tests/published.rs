@@ -1,6 +1,6 @@
 //! Tables from a leap-seconds.list: the published one is the built-in table, and each refusal comes where it should.
 
-use plaitgate::{Error, LeapEntry, LeapTable, ListError};
+use plaitgate::{CivilDateTime, Dated, Error, Gps, LeapEntry, LeapTable, ListError, Tai, Utc};
 
 const PUBLISHED: &[u8] = include_bytes!("../../data/leap-seconds.list");
 
@@ -17,15 +17,78 @@ fn rising(records: u64, first: u64) -> String {
         .collect()
 }
 
+fn published() -> LeapTable {
+    LeapTable::from_leap_seconds_list(PUBLISHED).expect("the published list is a table")
+}
+
 #[test]
-fn the_published_list_is_the_built_in_table() {
-    assert_eq!(LeapTable::from_leap_seconds_list(PUBLISHED), Ok(LeapTable::from_builtin()));
+fn the_published_list_is_the_built_in_table_with_an_expiry() {
+    assert_eq!(published().with_expiry(None), LeapTable::from_builtin());
+}
+
+#[test]
+fn the_published_list_expires_on_the_date_that_it_says() {
+    let text = String::from_utf8(PUBLISHED.to_vec()).expect("text");
+    assert!(text.contains("\tFile expires on 28 June 2026\n"));
+    assert!(text.contains("\n#@\t3991593600\n"));
+    let midnight = CivilDateTime { year: 2026, month: 6, day: 28, hour: 0, minute: 0, second: 0, nanos: 0 };
+    let utc = midnight.to_utc().expect("a count");
+    let table = published();
+    let expiry = table.expiry().expect("the list has an expiry");
+    assert_eq!(expiry, Tai::from_nanos((3_991_593_600 - 2_524_953_600 + 37) * 1_000_000_000));
+    let gps = Gps::from_tai(expiry).expect("a count");
+    assert_eq!(gps.to_utc_dated(&table), Ok(Dated { value: utc, stale: true }));
+    assert_eq!(utc.to_gps_dated(&table), Ok(Dated { value: gps, stale: true }));
+    let before = Utc::from_nanos(utc.as_nanos() - 1);
+    let gps_before = Gps::from_nanos(gps.as_nanos() - 1);
+    assert_eq!(gps_before.to_utc_dated(&table), Ok(Dated { value: before, stale: false }));
+    assert_eq!(before.to_gps_dated(&table), Ok(Dated { value: gps_before, stale: false }));
+}
+
+#[test]
+fn the_expiry_goes_by_the_last_offset_wherever_its_line_is() {
+    let expiry = |list: &str| LeapTable::from_leap_seconds_list(list.as_bytes()).map(|table| table.expiry());
+    let at = |seconds: u64| Ok(Some(Tai::from_nanos(seconds * 1_000_000_000)));
+    assert_eq!(expiry("#@ 2524953600\n0 19\n"), at(19));
+    assert_eq!(expiry("0 19\n#@ 2524953600\n2571782400 20\n"), at(20));
+    assert_eq!(expiry("0 18\n1 19\n2571782400 20\n#@ \t2524953600\t "), at(20));
+    assert_eq!(expiry("0 19\n"), Ok(None));
+    assert_eq!(expiry("0 19\n# @ 1\n##@ 1\n#$ 1\n"), Ok(None));
+    // the first count, and the last second that begins within the counts
+    assert_eq!(expiry("#@ 2524953581\n0 19\n"), at(0));
+    assert_eq!(expiry("#@ 20971697654\n0 19\n"), at(18_446_744_073));
+}
+
+#[test]
+fn a_second_or_malformed_expiry_is_named() {
+    for line in ["#@", "#@ ", "#@1", "#@ x", "#@ 1x", "#@ 1 2", "#@ 1 # 1900", "#@ -1", "#@ 1\r"] {
+        assert_eq!(refused(format!("# 1\n{line}\n0 19\n")), (Error::BadList, Some(2)), "{line:?}");
+    }
+    assert_eq!(refused("#@ 18446744073709551616\n0 19\n"), (Error::BadList, Some(1)));
+    assert_eq!(refused("#@ 000000000000000000001\n0 19\n"), (Error::BadList, Some(1)));
+    assert_eq!(refused("#@ 2524953600\n0 19\n#@ 2524953600\n"), (Error::BadList, Some(3)));
+    assert_eq!(refused("#@ 2524953600\n#@ x\ny\n"), (Error::BadList, Some(2)));
+    // before 6
+    assert_eq!(refused("#@ x\n"), (Error::BadList, Some(1)));
+    assert_eq!(refused("#@ 0\n"), (Error::EmptyTable, None));
+}
+
+#[test]
+fn an_expiry_that_is_no_count_is_1() {
+    let none = |error| (error, None);
+    assert_eq!(refused("#@ 2524953580\n0 19\n"), none(Error::Overflow));
+    assert_eq!(refused("#@ 20971697655\n0 19\n"), none(Error::Overflow));
+    assert_eq!(refused("#@ 18446744073709551615\n0 19\n"), none(Error::Overflow));
+    // after 12 without a line, and before 5 and 3
+    assert_eq!(refused("#@ 0\n0 18\n"), none(Error::BadList));
+    assert_eq!(refused(format!("#@ 0\n{}", rising(66, 18))), none(Error::Overflow));
+    assert_eq!(refused("#@ 0\n5 18\n5 19\n"), none(Error::Overflow));
 }
 
 #[test]
 fn the_last_line_may_end_with_the_file() {
     let list = PUBLISHED.strip_suffix(b"\n").expect("the published list ends with LF");
-    assert_eq!(LeapTable::from_leap_seconds_list(list), Ok(LeapTable::builtin()));
+    assert_eq!(LeapTable::from_leap_seconds_list(list), Ok(published()));
 }
 
 #[test]

@@ -24,7 +24,9 @@ fn an_empty_table() {
     assert_eq!((table.entry(0), table.last_update()), (None, None));
     assert_eq!(table.current_tai_minus_utc(), 19);
     assert_eq!(table.tai_minus_utc_at(Tai::MAX), 19);
-    assert_eq!(*table.as_image(), [0; 776]);
+    assert_eq!(table.expiry(), None);
+    assert_eq!(table.as_image()[..776], [0; 776]);
+    assert_eq!(table.as_image()[776..], [0xff; 8]);
     assert_eq!(table, LeapTable::default());
 }
 
@@ -117,13 +119,26 @@ fn forged_images_are_refused_by_8() {
         LeapTable::from_image(image)
     };
     let bad = Err(Error::BadTable);
-    assert_eq!(LeapTable::from_image([0xff; 776]), bad);
+    assert_eq!(LeapTable::from_image([0xff; 784]), bad);
     assert_eq!(forged(0, 65), bad, "more than 64 entries");
     assert_eq!(forged(7, 1), bad, "far more than 64 entries");
     assert_eq!(forged(0, 20), bad, "an entry of zeros after the last");
     assert_eq!(forged(8 + 7, 0x7f), bad, "a first threshold above the second");
     assert_eq!(forged(520, 18), bad, "a first offset two below the second");
     assert!(forged(0, 18).is_ok(), "one entry fewer is a table");
+    assert!(forged(783, 0).is_ok(), "any expiry is one");
+}
+
+#[test]
+fn stored_bytes_of_another_number_are_refused_by_8() {
+    let stored = [&LeapTable::builtin().as_image()[..], &[0; 8]].concat();
+    for bytes in [0, 8, 775, 776, 777, 783, 785, 792] {
+        assert_eq!(LeapTable::try_from(&stored[..bytes]), Err(Error::BadTable), "{bytes} bytes");
+    }
+    assert_eq!(LeapTable::try_from(&stored[..784]), Ok(LeapTable::builtin()));
+    // the version before had 776 bytes: its table is taken with no expiry after it
+    let moved = [&stored[..776], &u64::MAX.to_le_bytes()].concat();
+    assert_eq!(LeapTable::try_from(&moved[..]), Ok(LeapTable::builtin()));
 }
 
 #[test]
@@ -162,6 +177,8 @@ fn any_table_can_be_asked_through_the_trait() {
 fn a_table_shows_its_entries() {
     let table = LeapTable::from_entries(&[LeapEntry::new(4, 20)]).unwrap();
     assert_eq!(format!("{table:?}"), "[LeapEntry { tai_nanos: 4, tai_minus_utc: 20 }]");
+    let table = table.with_expiry(Some(Tai::from_nanos(9)));
+    assert_eq!(format!("{table:?}"), "expires 9: [LeapEntry { tai_nanos: 4, tai_minus_utc: 20 }]");
 }
 
 fn bytes_of(entries: &[LeapEntry]) -> Vec<u8> {

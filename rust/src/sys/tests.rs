@@ -35,6 +35,7 @@ fn declared_here() -> BTreeSet<String> {
         ("table_from_entries", "const uint8_t *, size_t, uint8_t *, size_t"),
         ("read_leap_list", "const uint8_t *, size_t, uint8_t *, size_t, uint64_t *"),
         ("table_try_extend", "uint8_t *, size_t, uint64_t, int32_t"),
+        ("table_set_expiry", "uint8_t *, size_t, uint64_t"),
     ];
     let writing = writing.into_iter().map(|(name, types)| declaration(name, &[types.to_string()]));
     let by_macros = [
@@ -77,8 +78,10 @@ fn counts_and_durations_cross_as_they_are() {
 }
 
 #[test]
-fn the_table_with_no_entry_is_zeros() {
-    assert_eq!(table_new(), Ok([0; IMAGE_BYTES]));
+fn the_table_with_no_entry_is_zeros_and_the_largest_expiry() {
+    assert_eq!(table_new(), Ok(NO_ENTRY));
+    assert_eq!(NO_ENTRY[..EXPIRY_AT], [0; EXPIRY_AT]);
+    assert_eq!(NO_ENTRY[EXPIRY_AT..], u64::MAX.to_le_bytes());
 }
 
 /// Bytes that no call of this crate lets become a table: here they are handed to every call.
@@ -92,6 +95,7 @@ fn a_forged_image_is_refused_by_8_in_every_call_and_is_left_alone() {
     assert_eq!(table_is_empty(&forged), Err(bad));
     assert_eq!(table_entry_at(&forged, 0), Err(bad));
     assert_eq!(table_last_update(&forged), Err(bad));
+    assert_eq!(table_expiry(&forged), Err(bad));
     assert_eq!(table_current_tai_minus_utc(&forged), Err(bad));
     assert_eq!(table_tai_minus_utc_at(&forged, 0), Err(bad));
     for convert in [table_gps_to_utc, table_utc_to_gps, table_glonass_to_gps, table_gps_to_glonass] {
@@ -106,6 +110,7 @@ fn a_forged_image_is_refused_by_8_in_every_call_and_is_left_alone() {
     assert_eq!(table_gps_from_unix_seconds(i64::MIN, &forged), Err(bad));
     assert_eq!(table_gps_as_unix_seconds(u64::MAX, &forged), Err(bad));
     assert_eq!(table_try_extend(&mut forged, u64::MAX, 38), Err(bad));
+    assert_eq!(table_set_expiry(&mut forged, 0), Err(bad));
     assert_eq!(forged, before);
 }
 
@@ -113,4 +118,13 @@ fn a_forged_image_is_refused_by_8_in_every_call_and_is_left_alone() {
 fn a_list_that_is_no_whole_number_of_entries_is_refused_by_8() {
     assert_eq!(table_from_entries(&[0; ENTRY_BYTES + 1]), Err(Error::BadTable));
     assert_eq!(table_from_entries(&[]), Err(Error::EmptyTable));
+}
+
+#[test]
+fn an_image_of_another_size_is_refused_by_8() {
+    let image = [table_from_builtin().unwrap().to_vec(), vec![0; 8]].concat();
+    for size in [0, 8, EXPIRY_AT, IMAGE_BYTES - 1, IMAGE_BYTES + 1, image.len()] {
+        assert_eq!(table_len(&image[..size]), Err(Error::BadTable), "{size} bytes");
+    }
+    assert_eq!(table_len(&image[..IMAGE_BYTES]), Ok(19));
 }
