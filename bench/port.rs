@@ -27,8 +27,10 @@ extern "C" {
 
     fn plaitgate_builtin_gps_to_utc(gps: u64, utc: *mut u64) -> u32;
     fn plaitgate_builtin_utc_to_gps(utc: u64, gps: *mut u64) -> u32;
-    fn plaitgate_table_gps_to_utc(gps: u64, image: *const u8, image_bytes: usize, utc: *mut u64) -> u32;
-    fn plaitgate_table_utc_to_gps(utc: u64, image: *const u8, image_bytes: usize, gps: *mut u64) -> u32;
+    fn plaitgate_table_gps_to_utc(gps: u64, image: *const u8, image_bytes: usize, utc: *mut u64, stale: *mut u8)
+        -> u32;
+    fn plaitgate_table_utc_to_gps(utc: u64, image: *const u8, image_bytes: usize, gps: *mut u64, stale: *mut u8)
+        -> u32;
     fn plaitgate_table_from_builtin(image: *mut u8, image_bytes: usize) -> u32;
     fn plaitgate_table_len(image: *const u8, image_bytes: usize, len: *mut u64) -> u32;
     fn plaitgate_read_leap_list(
@@ -62,11 +64,17 @@ macro_rules! by_tables {
                 pub fn $by_image(&self, count: u64) -> Answer<u64> {
                     extern "C" {
                         #[link_name = $table]
-                        fn exported(count: u64, image: *const u8, image_bytes: usize, result: *mut u64) -> u32;
+                        fn exported(
+                            count: u64,
+                            image: *const u8,
+                            image_bytes: usize,
+                            result: *mut u64,
+                            stale: *mut u8,
+                        ) -> u32;
                     }
-                    let mut result = 0;
-                    // SAFETY: the image is so long, and the result has a place
-                    let refusal = unsafe { exported(count, self.0.as_ptr(), self.0.len(), &mut result) };
+                    let (mut result, mut stale) = (0, 0);
+                    // SAFETY: the image is so long, and each result has a place
+                    let refusal = unsafe { exported(count, self.0.as_ptr(), self.0.len(), &mut result, &mut stale) };
                     answer(refusal, result)
                 }
             )*
@@ -139,12 +147,16 @@ pub fn builtin_utc_to_gps(utc: u64) -> Answer<Time<Gps>> {
     answer(refusal, Time::from_nanos(gps))
 }
 
+/// The bytes of a table, the last 8 of which are its expiry.
+const IMAGE_BYTES: usize = 784;
+const EXPIRY_BYTES: usize = 8;
+
 /// A table of the host's, which the port reads and checks at each call.
-pub struct Image(pub [u8; 776]);
+pub struct Image(pub [u8; IMAGE_BYTES]);
 
 impl Image {
     pub fn of_builtin() -> Image {
-        let mut image = Image([0; 776]);
+        let mut image = Image([0; IMAGE_BYTES]);
         // SAFETY: the image is so long
         let refusal = unsafe { plaitgate_table_from_builtin(image.0.as_mut_ptr(), image.0.len()) };
         assert_eq!(refusal, 0);
@@ -154,7 +166,7 @@ impl Image {
     /// The table of a leap-seconds.list.
     #[inline(always)]
     pub fn of_list(bytes: &[u8]) -> Answer<Image> {
-        let (mut image, mut line) = (Image([0; 776]), 0);
+        let (mut image, mut line) = (Image([0; IMAGE_BYTES]), 0);
         // SAFETY: the bytes and the image are so long and do not overlap, and the line has a place
         let refusal = unsafe {
             plaitgate_read_leap_list(bytes.as_ptr(), bytes.len(), image.0.as_mut_ptr(), image.0.len(), &mut line)
@@ -164,18 +176,23 @@ impl Image {
 
     #[inline(always)]
     pub fn gps_to_utc(&self, gps: u64) -> Answer<Time<Utc>> {
-        let mut utc = 0;
-        // SAFETY: the image is so long, and the result has a place
-        let refusal = unsafe { plaitgate_table_gps_to_utc(gps, self.0.as_ptr(), self.0.len(), &mut utc) };
+        let (mut utc, mut stale) = (0, 0);
+        // SAFETY: the image is so long, and each result has a place
+        let refusal = unsafe { plaitgate_table_gps_to_utc(gps, self.0.as_ptr(), self.0.len(), &mut utc, &mut stale) };
         answer(refusal, Time::from_nanos(utc))
     }
 
     #[inline(always)]
     pub fn utc_to_gps(&self, utc: u64) -> Answer<Time<Gps>> {
-        let mut gps = 0;
-        // SAFETY: the image is so long, and the result has a place
-        let refusal = unsafe { plaitgate_table_utc_to_gps(utc, self.0.as_ptr(), self.0.len(), &mut gps) };
+        let (mut gps, mut stale) = (0, 0);
+        // SAFETY: the image is so long, and each result has a place
+        let refusal = unsafe { plaitgate_table_utc_to_gps(utc, self.0.as_ptr(), self.0.len(), &mut gps, &mut stale) };
         answer(refusal, Time::from_nanos(gps))
+    }
+
+    /// The bytes without the expiry.
+    pub fn entries(&self) -> &[u8] {
+        &self.0[..IMAGE_BYTES - EXPIRY_BYTES]
     }
 
     /// The number of entries: the image is read and checked, and nothing else is done.

@@ -1,7 +1,8 @@
 /*
  * A rack's stamp, in C: a GPS week and second become a count, the count becomes UTC by the built-in table and by one
- * that the rack keeps itself, and the UTC count becomes a civil date and time. The second that was inserted at the
- * end of 2016 shows that one UTC count can name two instants. A refusal tells an operator which field to type again.
+ * that the rack keeps itself, and the UTC count becomes a civil date and time. The second that was inserted at the end
+ * of 2016 shows that one UTC count can name two instants. A refusal tells an operator which field to type again. From
+ * the expiry of the rack's table on, the rack lights a lamp and goes on stamping.
  *
  * ./test compiles it with include/plaitgate.h, links the library and compares what it writes with rack.out.
  */
@@ -49,11 +50,22 @@ static void keyed_in(uint32_t week, uint64_t seconds, uint32_t nanos)
     }
 }
 
+/* A stamp by the rack's own table, and its lamp: lit from the table's expiry on. */
+static void stamp_by_table(uint64_t gps, const uint8_t *table, size_t table_bytes)
+{
+    uint64_t utc;
+    uint8_t stale;
+
+    plaitgate_table_gps_to_utc(gps, table, table_bytes, &utc, &stale);
+    printf("GPS %" PRIu64 " is UTC %" PRIu64 ", lamp %s\n", gps, utc, stale ? "on" : "off");
+}
+
 int main(void)
 {
     uint8_t table[PLAITGATE_IMAGE_BYTES], before[PLAITGATE_IMAGE_BYTES];
-    uint64_t gps, threshold, length;
+    uint64_t gps, threshold, expiry, length;
     int32_t offset;
+    uint8_t stale;
 
     /* week 1930, the last seconds of 2016 and the first of 2017 */
     plaitgate_gps_from_week_tow(1930, 16, 0, &gps);
@@ -78,8 +90,16 @@ int main(void)
     plaitgate_entry_of_event(2035, 1, 1, 38, &threshold);
     plaitgate_table_try_extend(table, sizeof table, threshold, 38);
     plaitgate_table_len(table, sizeof table, &length);
-    plaitgate_table_tai_minus_utc_at(table, sizeof table, threshold, &offset);
+    plaitgate_table_tai_minus_utc_at(table, sizeof table, threshold, &offset, &stale);
     printf("%" PRIu64 " entries, TAI minus UTC %" PRId32 " s from %" PRIu64 " on\n", length, offset, threshold);
+
+    /* the table is good up to 2035-12-28, which a file would say in its line `#@`; TAI is GPS and 19 s */
+    plaitgate_entry_of_event(2035, 12, 28, 38, &expiry);
+    plaitgate_table_set_expiry(table, sizeof table, expiry);
+    gps = expiry - UINT64_C(19000000000);
+    stamp_by_table(gps - 1, table, sizeof table);
+    stamp_by_table(gps, table, sizeof table);
+
     table[0] = 65;
     printf("a length of 65: refused %" PRIu32 "\n", plaitgate_table_len(table, sizeof table, &length));
     return 0;
