@@ -11,6 +11,7 @@ use lib.ListN.{length}
 use Rattle.refusals.specs.Outcome.{Outcome, answered, refused, valueIn, Gives, then, unless}
 use Rattle.refusals.proofs.Given.{Numbered, gives-same, told-is}
 use Rattle.counts.specs.Answers.{countIn}
+use Rattle.scales.specs.Answers.{gpsIn, utcIn}
 use Rattle.scales.specs.Scales.{taiMinusGps}
 use Rattle.tables.specs.Entries.{Entry, regular}
 use Rattle.tables.specs.Slots.{entriesOf, validTable, ofValid}
@@ -97,20 +98,20 @@ pub demand-3 : Demand3
 demand-3 = record {
   by-value = λ t r.
       of-table t r taiMinusGps (by-regular-lists (entriesOf t) (r .1))
-      (λ g. allowed _ (λ κ a x e q p.
-      by-table (a .1 .0) (a .0 .0 + taiMinusGps) (gpsToUtc (entriesOf (a .1 .0)) (a .0 .0)) p
+      (λ g. allowed _ (λ κ a x e q (d, is, p).
+      ap utcIn (sym is) ∙ by-table (a .1 .0) (a .0 .0 + taiMinusGps) (gpsToUtc (entriesOf (a .1 .0)) (a .0 .0)) p
       ∙ (λ i. ofValid (q .1 i) (gpsToUtc (entriesOf (q .1 i)) (q .0 i)))))
-      (λ u. allowed _ (λ κ a x e q p.
-      by-table (a .1 .0) (lastReading (entriesOf (a .1 .0)) (a .0 .0)) (utcToGps (entriesOf (a .1 .0)) (a .0 .0)) p
+      (λ u. allowed _ (λ κ a x e q (d, is, p).
+      ap gpsIn (sym is) ∙ by-table (a .1 .0) (lastReading (entriesOf (a .1 .0)) (a .0 .0)) (utcToGps (entriesOf (a .1 .0)) (a .0 .0)) p
       ∙ (λ i. ofValid (q .1 i) (utcToGps (entriesOf (q .1 i)) (q .0 i)))));
   in-place = λ b size r.
       of-table (tableIn b) r taiMinusGps (by-regular-lists (entriesOf (tableIn b)) (r .1))
-      (λ g. allowed _ (λ κ a r e q p.
-      by-bytes (now (a .1 .0)) (λ es. valueIn 0 (countIn (a .0)) + taiMinusGps) (λ es. then (countIn (a .0)) (gpsToUtc es)) p
+      (λ g. allowed _ (λ κ a r e q (d, is, p).
+      ap countIn (sym is) ∙ by-bytes (now (a .1 .0)) (λ es. valueIn 0 (countIn (a .0)) + taiMinusGps) (λ es. then (countIn (a .0)) (gpsToUtc es)) p
       ∙ (λ i. byImage (now (a .1 .0)) (λ es. then (countIn (q .0 i)) (gpsToUtc es)))
       ∙ of-image gpsToUtc size {n = g} (refl, q .1)))
-      (λ u. allowed _ (λ κ a r e q p.
-      by-bytes (now (a .1 .0)) (λ es. lastReading es (valueIn 0 (countIn (a .0)))) (λ es. then (countIn (a .0)) (utcToGps es)) p
+      (λ u. allowed _ (λ κ a r e q (d, is, p).
+      ap countIn (sym is) ∙ by-bytes (now (a .1 .0)) (λ es. lastReading es (valueIn 0 (countIn (a .0)))) (λ es. then (countIn (a .0)) (utcToGps es)) p
       ∙ (λ i. byImage (now (a .1 .0)) (λ es. then (countIn (q .0 i)) (utcToGps es)))
       ∙ of-image utcToGps size {n = u} (refl, q .1)));
   built-in =

@@ -1,4 +1,5 @@
 pub mod TwoInstants
+pub mod AnswersOf
 pub mod OfCalls
 pub mod OfShifted
 pub mod RefusalsLeave

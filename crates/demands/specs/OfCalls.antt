@@ -15,10 +15,10 @@ use Rattle.tables.specs.Slots.{entriesOf}
 use Rattle.tables.specs.declared.LeapTable.{LeapTable}
 use Rattle.images.specs.Image.{imageBytes, tableIn}
 use Rattle.builtin.specs.Builtin.{builtin}
-use Rattle.conversions.proofs.gps_to_utc.Reads as gps-to-utc
-use Rattle.conversions.proofs.utc_to_gps.Reads as utc-to-gps
-use Rattle.images.proofs.table.utc_from_gps.Reads as image-utc-from-gps
-use Rattle.images.proofs.table.gps_from_utc.Reads as image-gps-from-utc
+use Rattle.demands.specs.AnswersOf.gps_to_utc as gps-to-utc
+use Rattle.demands.specs.AnswersOf.utc_to_gps as utc-to-gps
+use Rattle.demands.specs.AnswersOf.image_utc_from_gps as image-utc-from-gps
+use Rattle.demands.specs.AnswersOf.image_gps_from_utc as image-gps-from-utc
 use Rattle.builtin.proofs.gps_to_utc.Reads as builtin-gps-to-utc
 use Rattle.builtin.proofs.utc_to_gps.Reads as builtin-utc-to-gps
 use Rattle.plaitgate.proofs.by_table.plaitgate_table_gps_to_utc.Reads as host-to-utc
@@ -49,12 +49,12 @@ Regular t = (t .len ≤ 64) × (regular (entriesOf t) ≡ true)
 pub record Demand3 : Type 0 where
   -- `conversions::gps_to_utc` and `utc_to_gps`, by a table
   pub by-value : (t : LeapTable) → Regular t → TwoInstantsOf (entriesOf t) taiMinusGps
-      (λ g. Allows gps-to-utc.Post (λ κ a. (a .0 .0 ≡ g) × (a .1 .0 ≡ t)) (λ κ r e. utcIn (r .answer)))
-      (λ u. Allows utc-to-gps.Post (λ κ a. (a .0 .0 ≡ u) × (a .1 .0 ≡ t)) (λ κ r e. gpsIn (r .answer)))
+      (λ g. Allows gps-to-utc.Post (λ κ a. (a .0 .0 ≡ g) × (a .1 .0 ≡ t)) (λ κ r e. utcIn r))
+      (λ u. Allows utc-to-gps.Post (λ κ a. (a .0 .0 ≡ u) × (a .1 .0 ≡ t)) (λ κ r e. gpsIn r))
   -- `images::table::utc_from_gps` and `gps_from_utc`, by an image
   pub in-place : (b : List ℕ) → length b ≡ imageBytes → Regular (tableIn b) → TwoInstantsOf (entriesOf (tableIn b)) taiMinusGps
-      (λ g. Allows image-utc-from-gps.Post (λ κ a. (a .0 ≡ count.Count g) × (now (a .1 .0) ≡ b)) (λ κ r e. countIn (r .answer)))
-      (λ u. Allows image-gps-from-utc.Post (λ κ a. (a .0 ≡ count.Count u) × (now (a .1 .0) ≡ b)) (λ κ r e. countIn (r .answer)))
+      (λ g. Allows image-utc-from-gps.Post (λ κ a. (a .0 ≡ count.Count g) × (now (a .1 .0) ≡ b)) (λ κ r e. countIn r))
+      (λ u. Allows image-gps-from-utc.Post (λ κ a. (a .0 ≡ count.Count u) × (now (a .1 .0) ≡ b)) (λ κ r e. countIn r))
   -- `builtin::gps_to_utc` and `utc_to_gps`
   pub built-in : TwoInstantsOf builtin taiMinusGps
       (λ g. Allows builtin-gps-to-utc.Post (λ κ a. a .0 .0 ≡ g) (λ κ r e. utcIn r))
