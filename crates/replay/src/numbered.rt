@@ -4,17 +4,18 @@ ghost use lib.ListN.{length};
 use crate::reply::Question;
 use plaitgate::leap_tables::plaitgate_table_from_builtin;
 use plaitgate::leap_tables::plaitgate_table_new;
+use plaitgate::leap_tables::plaitgate_table_set_expiry;
 use plaitgate::leap_tables::plaitgate_table_try_extend;
+use scales::tai::Tai;
 use tables::LeapEntry;
 use tables::LeapTable;
 use words::inner;
 
-// The table of a number, written over an image of zeros.
-pub fn put(number: u64, image: &mut [u8; 776]) {
+// The table of a number, with no expiry, written over an image.
+pub fn put(number: u64, image: &mut [u8; 784]) {
+    plaitgate_table_new(image);
     match number {
-        0 => {
-            plaitgate_table_new(image);
-        }
+        0 => {}
         1 => {
             plaitgate_table_from_builtin(image);
         }
@@ -31,8 +32,14 @@ pub fn put(number: u64, image: &mut [u8; 776]) {
     }
 }
 
+// The same with an expiry. Gives the number of the refusal to set it.
+pub fn put_expiring(number: u64, expiry: u64, image: &mut [u8; 784]) -> u32 {
+    put(number, image);
+    plaitgate_table_set_expiry(image, expiry)
+}
+
 // Offsets that rise through 0, a million seconds apart.
-fn put_negative(image: &mut [u8; 776]) {
+fn put_negative(image: &mut [u8; 784]) {
     plaitgate_table_try_extend(image, 0, -3);
     plaitgate_table_try_extend(image, 1_000_000_000_000_000, -2);
     plaitgate_table_try_extend(image, 2_000_000_000_000_000, -1);
@@ -42,7 +49,7 @@ fn put_negative(image: &mut [u8; 776]) {
 }
 
 // Offsets from two below the least that a conversion can use, a thousand million seconds apart.
-fn put_least(image: &mut [u8; 776]) {
+fn put_least(image: &mut [u8; 784]) {
     plaitgate_table_try_extend(image, 0, -2_147_483_631);
     plaitgate_table_try_extend(image, 1_000_000_000_000_000_000, -2_147_483_630);
     plaitgate_table_try_extend(image, 2_000_000_000_000_000_000, -2_147_483_629);
@@ -51,13 +58,13 @@ fn put_least(image: &mut [u8; 776]) {
 }
 
 // The two greatest offsets.
-fn put_greatest(image: &mut [u8; 776]) {
+fn put_greatest(image: &mut [u8; 784]) {
     plaitgate_table_try_extend(image, 0, 2_147_483_646);
     plaitgate_table_try_extend(image, 1_000_000_000_000_000_000, 2_147_483_647);
 }
 
 // A length of 65, which no table has.
-fn put_too_long(image: &mut [u8; 776]) {
+fn put_too_long(image: &mut [u8; 784]) {
     image[0] = 65;
 }
 
@@ -76,12 +83,18 @@ fn full() -> LeapTable {
 
 // The table of a number, by value.
 pub fn table(number: u64) -> LeapTable {
-    let mut image = [0u8; 776];
+    let mut image = [0u8; 784];
     put(number, &mut image);
     table_in(&image)
 }
 
-fn table_in(image: &[u8; 776]) -> LeapTable {
+// The same with an expiry; an invalid table as it is.
+pub fn expiring(number: u64, expiry: u64) -> LeapTable {
+    let set = table(number).with_expiry(Tai(expiry));
+    set.table
+}
+
+fn table_in(image: &[u8; 784]) -> LeapTable {
     let read = images::table::read(image);
     read.table
 }

@@ -147,6 +147,14 @@ impl Reply {
         }
     }
 
+    // The same with whether the table is stale, as the second result. A line about a table without an expiry has no
+    // second result, which reads as 0, so a stale answer differs from it.
+    pub fn dated(self, stale: u8) -> Reply {
+        let mut next = self;
+        next.values[1] = stale as u64;
+        next
+    }
+
     // No call has this number.
     pub fn unknown() -> Reply {
         Reply::plain(4_294_967_295, [0, 0, 0, 0, 0, 0, 0])

@@ -1,8 +1,9 @@
-// What the exported calls that change an image leave there: its length and last entry.
+// What the exported calls that change an image leave there: its length and last entry, or its expiry.
 use crate::numbered;
 use crate::reply::Question;
 use crate::reply::Reply;
 use plaitgate::leap_tables::plaitgate_table_entry_at;
+use plaitgate::leap_tables::plaitgate_table_expiry;
 use plaitgate::leap_tables::plaitgate_table_from_builtin;
 use plaitgate::leap_tables::plaitgate_table_from_entries;
 use plaitgate::leap_tables::plaitgate_table_len;
@@ -10,13 +11,13 @@ use plaitgate::leap_tables::plaitgate_table_new;
 use plaitgate::leap_tables::plaitgate_table_try_extend;
 
 pub fn changes(call: u64, q: Question) -> Reply {
-    let mut image = [0u8; 776];
+    let mut image = [0u8; 784];
     let number = change(call, q, &mut image);
     afterwards(number, &image)
 }
 
-// Puts a table into an image of zeros, and makes the call over it. Gives the number of the refusal.
-pub fn change(call: u64, q: Question, image: &mut [u8; 776]) -> u32 {
+// Puts a table into an image, and makes the call over it. Gives the number of the refusal.
+pub fn change(call: u64, q: Question, image: &mut [u8; 784]) -> u32 {
     numbered::put(q.x, image);
     match call {
         1 => plaitgate_table_new(image),
@@ -27,7 +28,7 @@ pub fn change(call: u64, q: Question, image: &mut [u8; 776]) -> u32 {
 }
 
 // The table of the question's entries: none to three, or 65.
-fn from_entries(q: Question, image: &mut [u8; 776]) -> u32 {
+fn from_entries(q: Question, image: &mut [u8; 784]) -> u32 {
     let list = numbered::list(q);
     let count = q.x;
     match count {
@@ -39,7 +40,25 @@ fn from_entries(q: Question, image: &mut [u8; 776]) -> u32 {
     }
 }
 
-fn afterwards(number: u32, image: &[u8; 776]) -> Reply {
+// The expiry of a table after it is set to the second input.
+pub fn expiry(q: Question) -> Reply {
+    let mut image = [0u8; 784];
+    let set = numbered::put_expiring(q.x, q.y, &mut image);
+    expiry_in(set, &image)
+}
+
+// The expiry in an image. Reading it is refused as setting it was, or no line agrees.
+fn expiry_in(set: u32, image: &[u8; 784]) -> Reply {
+    let mut found: u8 = 1;
+    let mut tai: u64 = 1;
+    let number = plaitgate_table_expiry(image, &mut found, &mut tai);
+    if set != number {
+        return Reply::unknown();
+    }
+    Reply::two(number, found as u64, tai)
+}
+
+fn afterwards(number: u32, image: &[u8; 784]) -> Reply {
     let mut len: u64 = 1;
     plaitgate_table_len(image, &mut len);
     if len == 0 {

@@ -30,18 +30,26 @@ pub fn by_builtin(call: u64, q: Question) -> Reply {
 
 // By a table, whose number is the first input.
 pub fn by_table(call: u64, q: Question) -> Reply {
-    let mut image = [0u8; 776];
+    let mut image = [0u8; 784];
     numbered::put(q.x, &mut image);
     by_image(call, q.y, &image)
 }
 
-fn by_image(call: u64, count: u64, image: &[u8; 776]) -> Reply {
+// The same with the third input as the table's expiry.
+pub fn by_expiring(call: u64, q: Question) -> Reply {
+    let mut image = [0u8; 784];
+    numbered::put_expiring(q.x, q.z, &mut image);
+    by_image(call, q.y, &image)
+}
+
+fn by_image(call: u64, count: u64, image: &[u8; 784]) -> Reply {
     let mut a: u64 = 1;
+    let mut stale: u8 = 1;
     let number = match call {
-        1 => plaitgate_table_galileo_to_utc(count, image, &mut a),
-        2 => plaitgate_table_utc_to_galileo(count, image, &mut a),
-        3 => plaitgate_table_galileo_to_glonass(count, image, &mut a),
-        _ => plaitgate_table_glonass_to_galileo(count, image, &mut a),
+        1 => plaitgate_table_galileo_to_utc(count, image, &mut a, &mut stale),
+        2 => plaitgate_table_utc_to_galileo(count, image, &mut a, &mut stale),
+        3 => plaitgate_table_galileo_to_glonass(count, image, &mut a, &mut stale),
+        _ => plaitgate_table_glonass_to_galileo(count, image, &mut a, &mut stale),
     };
-    Reply::one(number, a)
+    Reply::one(number, a).dated(stale)
 }

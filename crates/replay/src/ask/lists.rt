@@ -50,8 +50,9 @@ fn list_of(call: u64, list: &[u8], tai: u64) -> Reply {
         }
         _ => {
             let mut a: i32 = 1;
-            let number = plaitgate_list_tai_minus_utc_at(list, tai, &mut a);
-            Reply::offset(number, a)
+            let mut stale: u8 = 1;
+            let number = plaitgate_list_tai_minus_utc_at(list, tai, &mut a, &mut stale);
+            Reply::offset(number, a).dated(stale)
         }
     }
 }

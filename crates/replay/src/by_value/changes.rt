@@ -1,9 +1,11 @@
-// Tables made and extended by value. Each is held, byte by byte, to the image that the exported call leaves.
+// Tables made, extended and given an expiry by value. Each is held, byte by byte, to the image that the exported call leaves.
 use crate::ask;
+use crate::by_value::said;
 use crate::numbered;
 use crate::reply::Question;
 use crate::reply::Reply;
 use lent::inner::copied::extended_in_place;
+use scales::tai::Tai;
 use tables::EntryAnswer;
 use tables::LeapEntry;
 use tables::LeapTable;
@@ -14,15 +16,30 @@ use tables::Taken;
 pub fn changes(call: u64, q: Question) -> Reply {
     let made = change(call, q);
     let table = made.table;
-    let mut lent = [0u8; 776];
+    let mut lent = [0u8; 784];
     ask::changes::change(call, q, &mut lent);
-    let mut own = [0u8; 776];
+    let mut own = [0u8; 784];
     images::table::write(table, &mut own);
     if !same_bytes(&lent, &own) {
         return Reply::unknown();
     }
     let answer = made.answer;
     afterwards(number_of(answer), table)
+}
+
+// The expiry of a table after it is set to the second input.
+pub fn expiry(q: Question) -> Reply {
+    let set = numbered::table(q.x).with_expiry(Tai(q.y));
+    let answer = set.answer;
+    let table = set.table;
+    let mut lent = [0u8; 784];
+    let number = numbered::put_expiring(q.x, q.y, &mut lent);
+    let mut own = [0u8; 784];
+    images::table::write(table, &mut own);
+    if number_of(answer) != number || !same_bytes(&lent, &own) {
+        return Reply::unknown();
+    }
+    said::update(table.expiry())
 }
 
 fn number_of(answer: Taken) -> u32 {
@@ -50,9 +67,9 @@ fn extended(table: LeapTable, entry: LeapEntry) -> TableAnswer {
     let other = extended_in_place(table, entry);
     let other_answer = other.answer;
     let in_place = other.table;
-    let mut one = [0u8; 776];
+    let mut one = [0u8; 784];
     images::table::write(by_value, &mut one);
-    let mut two = [0u8; 776];
+    let mut two = [0u8; 784];
     images::table::write(in_place, &mut two);
     if number_of(answer) == number_of(other_answer) && same_bytes(&one, &two) {
         grown
@@ -110,9 +127,9 @@ fn last_of(number: u32, n: usize, table: LeapTable) -> Reply {
     }
 }
 
-fn same_bytes<'a>(a: &'a [u8; 776], b: &'a [u8; 776]) -> bool {
+fn same_bytes<'a>(a: &'a [u8; 784], b: &'a [u8; 784]) -> bool {
     let mut i: usize = 0;
-    while i < 776 {
+    while i < 784 {
         if a[i] != b[i] {
             return false;
         }

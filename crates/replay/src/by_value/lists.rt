@@ -29,6 +29,6 @@ fn one_of(call: u64, answers: Answers) -> Reply {
         3 => said::emptiness(empty),
         4 => said::update(update),
         5 => said::offset(current),
-        _ => said::offset(in_force),
+        _ => said::dated_offset(in_force),
     }
 }

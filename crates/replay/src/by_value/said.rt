@@ -6,12 +6,17 @@ use crate::year;
 use calendar::CivilDate;
 use calendar::SpanAnswer;
 use civil::CivilDateTime;
+use conversions::DatedGlonass;
+use conversions::DatedGps;
+use conversions::DatedUnix;
+use conversions::DatedUtc;
 use conversions::UnixAnswer;
 use counts::CountAnswer;
 use counts::Duration;
 use counts::DurationAnswer;
 use counts::units::DurationParts;
 use counts::units::PartsAnswer;
+use tables::DatedOffset;
 use tables::EmptyAnswer;
 use tables::EntryAnswer;
 use tables::LengthAnswer;
@@ -40,6 +45,40 @@ pub fn unix(answer: UnixAnswer) -> Reply {
         UnixAnswer::Seconds(s) => Reply::signed(0, s),
         UnixAnswer::Refused(why) => Reply::refused(why),
     }
+}
+
+// An answer by a table, and whether the table is stale.
+pub fn dated(answer: Reply, stale: bool) -> Reply {
+    if stale {
+        answer.dated(1)
+    } else {
+        answer.dated(0)
+    }
+}
+
+pub fn dated_gps(found: DatedGps) -> Reply {
+    let answer = found.answer;
+    dated(gps(answer), found.stale)
+}
+
+pub fn dated_utc(found: DatedUtc) -> Reply {
+    let answer = found.answer;
+    dated(utc(answer), found.stale)
+}
+
+pub fn dated_glonass(found: DatedGlonass) -> Reply {
+    let answer = found.answer;
+    dated(glonass(answer), found.stale)
+}
+
+pub fn dated_unix(found: DatedUnix) -> Reply {
+    let answer = found.answer;
+    dated(unix(answer), found.stale)
+}
+
+pub fn dated_offset(found: DatedOffset) -> Reply {
+    let answer = found.answer;
+    dated(offset(answer), found.stale)
 }
 
 pub fn duration(answer: DurationAnswer) -> Reply {
