@@ -5,14 +5,14 @@ use crate::by_table::found;
 use crate::call::{prototype_of, Call, Named, Outcome, Written};
 use crate::lists::{self, lent};
 use crate::number::Number;
-use crate::original::{refusal_of, BAD_TABLE};
+use crate::original::{never_stale, refusal_of, BAD_TABLE};
 use gnss_time::{LeapSeconds, LeapSecondsProvider, Time};
 
 const LIST: Named = ("list", u64::KIND);
 
-/// An entry for a call that reads a list: `by_list!("name", (inputs) -> (results), what the crate answers, tried on f)`,
-/// where the crate's side uses the inputs by name, and the crate's table over the same entries as `list`. Where the
-/// bytes are no list that the crate would take, 8 is due; a list of no entries is one.
+/// An entry for a call that reads a list: `by_list!("name", (inputs) -> (results), what the crate answers, tried on
+/// f)`, where the crate's side uses the inputs by name, and the crate's table over the same entries as `list`. Where
+/// the bytes are no list that the crate would take, 8 is due; a list of no entries is one.
 macro_rules! by_list {
     ($name:literal, $list:ident ($($input:ident: $taken:ty),*) -> ($($result:ident: $written:ty),*), $original:expr,
         tried on $trials:path) => {{
@@ -85,7 +85,7 @@ pub fn calls() -> [Call; 6] {
             found(list.last_update().map(|tai| [tai.as_nanos().wide()])), tried on lists::each),
         by_list!("list_current_tai_minus_utc", list () -> (offset: i32), list.current_tai_minus_utc(),
             tried on lists::each),
-        by_list!("list_tai_minus_utc_at", list (tai: u64) -> (offset: i32),
-            list.tai_minus_utc_at(Time::from_nanos(tai)), tried on lists::with_readings),
+        by_list!("list_tai_minus_utc_at", list (tai: u64) -> (offset: i32, stale: u8),
+            never_stale(list.tai_minus_utc_at(Time::from_nanos(tai))), tried on lists::with_readings),
     ]
 }

@@ -5,7 +5,7 @@ use crate::images::{image, prepared, put_entries, table_in, words, IMAGE_BYTES};
 use crate::instants::{self, with_epochs};
 use crate::lists::{self, entries_in, prepared_list};
 use crate::number::Number;
-use crate::original::{refusal_of, BAD_TABLE};
+use crate::original::{never_stale, refusal_of, BAD_TABLE};
 use crate::shifted::{from_glonass, from_utc, to_glonass, to_utc};
 use gnss_time::{
     glonass_to_gps, gps_to_glonass, gps_to_utc, utc_to_gps, Beidou, Galileo, Glonass, Gps, LeapEntry,
@@ -84,7 +84,7 @@ macro_rules! by_table {
     }};
 }
 
-const TABLE: Named = ("table", u64::KIND);
+pub const TABLE: Named = ("table", u64::KIND);
 const OFFSET_RANGE: u32 = 9;
 
 pub fn calls() -> Vec<Call> {
@@ -100,19 +100,23 @@ fn at<S: TimeScale>(count: u64) -> Time<S> {
 
 fn conversions() -> [Call; 6] {
     [
-        by_table!("table_gps_to_utc", (gps: u64) table () -> (utc: u64), gps_to_utc(at(gps), table),
+        by_table!("table_gps_to_utc", (gps: u64) table () -> (utc: u64, stale: u8),
+            never_stale(gps_to_utc(at(gps), table)),
             tried on instants::gps, recorded on instants::recorded_gps),
-        by_table!("table_utc_to_gps", (utc: u64) table () -> (gps: u64), utc_to_gps(at(utc), table),
+        by_table!("table_utc_to_gps", (utc: u64) table () -> (gps: u64, stale: u8),
+            never_stale(utc_to_gps(at(utc), table)),
             tried on instants::utc, recorded on instants::recorded_utc),
-        by_table!("table_glonass_to_gps", (glonass: u64) table () -> (gps: u64),
-            glonass_to_gps(at::<Glonass>(glonass), table),
+        by_table!("table_glonass_to_gps", (glonass: u64) table () -> (gps: u64, stale: u8),
+            never_stale(glonass_to_gps(at::<Glonass>(glonass), table)),
             tried on instants::glonass, recorded on instants::recorded_glonass),
-        by_table!("table_gps_to_glonass", (gps: u64) table () -> (glonass: u64), gps_to_glonass(at(gps), table),
+        by_table!("table_gps_to_glonass", (gps: u64) table () -> (glonass: u64, stale: u8),
+            never_stale(gps_to_glonass(at(gps), table)),
             tried on instants::gps, recorded on instants::recorded_gps),
-        by_table!("table_gps_from_unix_seconds", (seconds: i64) table () -> (gps: u64),
-            Time::<Gps>::from_unix_seconds(seconds, table),
+        by_table!("table_gps_from_unix_seconds", (seconds: i64) table () -> (gps: u64, stale: u8),
+            never_stale(Time::<Gps>::from_unix_seconds(seconds, table)),
             tried on instants::unix, recorded on instants::recorded_unix),
-        by_table!("table_gps_as_unix_seconds", (gps: u64) table () -> (seconds: i64), at::<Gps>(gps).as_unix_seconds(table),
+        by_table!("table_gps_as_unix_seconds", (gps: u64) table () -> (seconds: i64, stale: u8),
+            never_stale(at::<Gps>(gps).as_unix_seconds(table)),
             tried on instants::gps, recorded on instants::recorded_gps),
     ]
 }
@@ -122,15 +126,15 @@ fn conversions() -> [Call; 6] {
 macro_rules! shifted_calls {
     ($scale:ty, $name:literal, $count:ident, $tried:path, $recorded:path) => {
         [
-            by_table!("table_" $name "_to_utc", ($count: u64) table () -> (utc: u64),
-                to_utc::<$scale>($count, table), tried on $tried, recorded on $recorded),
-            by_table!("table_utc_to_" $name, (utc: u64) table () -> ($count: u64),
-                from_utc::<$scale>(utc, table),
+            by_table!("table_" $name "_to_utc", ($count: u64) table () -> (utc: u64, stale: u8),
+                never_stale(to_utc::<$scale>($count, table)), tried on $tried, recorded on $recorded),
+            by_table!("table_utc_to_" $name, (utc: u64) table () -> ($count: u64, stale: u8),
+                never_stale(from_utc::<$scale>(utc, table)),
                 tried on with_epochs::utc, recorded on with_epochs::recorded_utc),
-            by_table!("table_" $name "_to_glonass", ($count: u64) table () -> (glonass: u64),
-                to_glonass::<$scale>($count, table), tried on $tried, recorded on $recorded),
-            by_table!("table_glonass_to_" $name, (glonass: u64) table () -> ($count: u64),
-                from_glonass::<$scale>(glonass, table),
+            by_table!("table_" $name "_to_glonass", ($count: u64) table () -> (glonass: u64, stale: u8),
+                never_stale(to_glonass::<$scale>($count, table)), tried on $tried, recorded on $recorded),
+            by_table!("table_glonass_to_" $name, (glonass: u64) table () -> ($count: u64, stale: u8),
+                never_stale(from_glonass::<$scale>(glonass, table)),
                 tried on with_epochs::glonass, recorded on with_epochs::recorded_glonass),
         ]
     };
@@ -145,7 +149,8 @@ pub fn shifted() -> Vec<Call> {
 
 fn readers() -> [Call; 6] {
     [
-        by_table!("table_tai_minus_utc_at", () table (tai: u64) -> (offset: i32), table.tai_minus_utc_at(at(tai)),
+        by_table!("table_tai_minus_utc_at", () table (tai: u64) -> (offset: i32, stale: u8),
+            never_stale(table.tai_minus_utc_at(at(tai))),
             tried on instants::tai, recorded on instants::recorded_tai),
         by_table!("table_len", () table () -> (len: u64), table.len() as u64,
             tried on instants::tables, recorded on instants::recorded_tables),
@@ -185,8 +190,8 @@ extern "C" {
 }
 
 /// The image that a call is to change. The bytes of it afterwards are the call's results.
-const CHANGED: [(&str, &str); 2] = [("*image", "uint8_t"), ("image_bytes", "size_t")];
-const IMAGE_AFTERWARDS: &[Named] = &[("image_from_its_length_on", u64::KIND)];
+pub const CHANGED: [(&str, &str); 2] = [("*image", "uint8_t"), ("image_bytes", "size_t")];
+pub const IMAGE_AFTERWARDS: &[Named] = &[("image_from_its_length_on", u64::KIND)];
 
 /// The calls that change an image. The recorded list has them in a shorter form (questions.rs).
 fn changes() -> [Call; 4] {
@@ -281,7 +286,7 @@ fn try_extend() -> Call {
     }
 }
 
-/// What is left where a table is written over an image: its entries and zeros.
+/// What is left where a table is written over an image: its entries, zeros, and no expiry.
 fn written_over(number: i128, table: &RuntimeLeapSeconds) -> Outcome {
     if prepared(number).bytes().len() != IMAGE_BYTES {
         return Err(BAD_TABLE);
@@ -291,9 +296,12 @@ fn written_over(number: i128, table: &RuntimeLeapSeconds) -> Outcome {
 
 /// Lends a copy of an image for change, and sees what is written there, and around it.
 fn lend(number: i128, call: impl FnOnce(*mut u8, usize) -> u32) -> Written {
+    lend_bytes(prepared(number).bytes(), call)
+}
+
+pub fn lend_bytes(image: &[u8], call: impl FnOnce(*mut u8, usize) -> u32) -> Written {
     // the bytes before the image, an odd number of them, and those after it, none of which may change
     const AROUND: [u8; 9] = [0xA5; 9];
-    let image = prepared(number).bytes();
     let mut lent = [&AROUND[..], image, &AROUND[..]].concat();
     let refusal = call(lent[AROUND.len()..].as_mut_ptr(), image.len());
     let (before, rest) = lent.split_at(AROUND.len());

@@ -1,5 +1,5 @@
-//! The table of all calls that are compared, an entry each. A call's number in the recorded list is its place
-//! here, from 1: a new call goes to the end.
+//! The table of all calls that are compared, an entry each. A call's number in the recorded list is by its place here
+//! (`number_of_call` in questions.rs): a new call goes to the end.
 
 use crate::by_list;
 use crate::by_table;

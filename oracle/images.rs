@@ -6,10 +6,13 @@ use crate::shifted::Shifted;
 use gnss_time::{Beidou, Galileo, LeapEntry, LeapSeconds, RuntimeLeapSeconds, RUNTIME_CAPACITY};
 use std::sync::OnceLock;
 
-pub const IMAGE_BYTES: usize = 776;
+pub const IMAGE_BYTES: usize = 784;
 pub const ENTRY_BYTES: usize = 12;
 const THRESHOLDS_AT: usize = 8;
 const OFFSETS_AT: usize = THRESHOLDS_AT + 8 * RUNTIME_CAPACITY;
+const EXPIRY_AT: usize = OFFSETS_AT + 4 * RUNTIME_CAPACITY;
+/// The expiry of a table that has none, as all have that the crate is asked with.
+pub const NO_EXPIRY: u64 = u64::MAX;
 const SECOND: u64 = 1_000_000_000;
 const DAY: u64 = 86_400 * SECOND;
 /// The least offset that a conversion can use.
@@ -38,9 +41,8 @@ pub struct Prepared {
     pub table: Option<RuntimeLeapSeconds>,
 }
 
-/// What follows the bytes: the offset that would follow the last of `row(0, 1, 19, RUNTIME_CAPACITY)`, so that
-/// one who read past them would find a table of 65 entries there.
-const AFTER: [u8; 4] = (19 + RUNTIME_CAPACITY as i32).to_le_bytes();
+/// What follows the bytes.
+const AFTER: [u8; 4] = [0xA5; 4];
 
 impl Prepared {
     fn new(bytes: &[u8]) -> Prepared {
@@ -174,11 +176,15 @@ fn notable_forgeries() -> Vec<Vec<u8>> {
     let mut forgeries: Vec<Vec<u8>> =
         [0, 1, 8, 12, 520, IMAGE_BYTES + 1, 2 * IMAGE_BYTES].map(|size| vec![0; size]).into();
     forgeries.push(builtin[..IMAGE_BYTES - 1].to_vec());
+    // an image of the version before, which had no expiry
+    forgeries.push(builtin[..EXPIRY_AT].to_vec());
     forgeries.push([&builtin[..], &[0]].concat());
     for len in [20, 64, 65, 66, 255, 256, 1 << 32, (1 << 32) + 19, 1 << 63, u64::MAX] {
         forgeries.extend([with_len(&builtin, len), with_len(&full, len)]);
     }
-    forgeries.push(with_len(&image(&row(0, 1, 19, RUNTIME_CAPACITY)), RUNTIME_CAPACITY as u64 + 1));
+    // the expiry begins with the offset that would follow the last: one who read on would find a table of 65 entries
+    let one_more = with_len(&image(&row(0, 1, 19, RUNTIME_CAPACITY)), RUNTIME_CAPACITY as u64 + 1);
+    forgeries.push(with_expiry(&one_more, 19 + RUNTIME_CAPACITY as u64));
     forgeries.push(vec![0xFF; IMAGE_BYTES]);
     for place in [0, 1, 9, 17, 18] {
         let at = LeapSeconds::builtin().entries()[place];
@@ -271,10 +277,19 @@ fn random_forgery(chance: &mut Chance) -> Vec<u8> {
     }
 }
 
-/// The image of entries, with zeros after them.
+/// The image of entries, with zeros after them and no expiry.
 pub fn image(entries: &[LeapEntry]) -> Vec<u8> {
     let mut bytes = vec![0; IMAGE_BYTES];
     put_entries(&mut bytes, entries);
+    with_expiry(&bytes, NO_EXPIRY)
+}
+
+/// An image with this expiry in place of its own; bytes of another number are left as they are.
+pub fn with_expiry(image: &[u8], expiry: u64) -> Vec<u8> {
+    let mut bytes = image.to_vec();
+    if bytes.len() == IMAGE_BYTES {
+        bytes[EXPIRY_AT..].copy_from_slice(&expiry.to_le_bytes());
+    }
     bytes
 }
 

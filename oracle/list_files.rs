@@ -21,7 +21,7 @@ const LAST_SECOND: i128 = 18_446_744_073;
 const GREATEST_OFFSET: i128 = i32::MAX as i128;
 
 /// Files with one thing to see in each.
-const NOTABLE: [&[u8]; 38] = [
+const NOTABLE: [&[u8]; 68] = [
     b"",
     b"\n",
     b"\r\n",
@@ -60,36 +60,80 @@ const NOTABLE: [&[u8]; 38] = [
     b"0 2147483648\n0 19\n",
     b"0 2147483647\n1 19\n",
     b"0 2147483647\n0 19\n",
+    b"#@",
+    b"#@ ",
+    b"#@1\n0 19",
+    b"#@ 2524953581\n0 19",
+    b"#@ 2524953580\n0 19",
+    b"#@\t 2524953581 \t\n0 19",
+    b"0 19\n#@ 2524953581",
+    b"0 18\n1 19\n2524953581 20\n#@ 2524953580",
+    b"0 18\n1 19\n2524953581 20\n#@ 2524953579",
+    b"#@ 20971697654\n0 19",
+    b"#@ 20971697655\n0 19",
+    b"#@ 18446744073709551615\n0 19",
+    b"#@ 18446744073709551616\n0 19",
+    b"#@ 00000000003991593600\n0 19",
+    b"#@ 000000000003991593600\n0 19",
+    b"#@ 3991593600\r\n0 19",
+    b"#@ 3991593600#\n0 19",
+    b"#@ 3991593600 # 28 June 2026\n0 19",
+    b"#@ 3991593600 1\n0 19",
+    b"#@ x\n0 19",
+    b"#@ -1\n0 19",
+    b"#@\x0b3991593600\n0 19",
+    b"#@ 3991593600\n#@ 3991593600\n0 19",
+    b"#@ 3991593600\n0 19\n#@ x",
+    b"#@ 3991593600\n0 19\nx\n#@ 3991593600",
+    b"# @ 1\n ##@ 1\n0 19",
+    b"##@ 1\n0 19",
+    b"#@ 0\n",
+    b"#@ 0\n0 18",
+    b"#@ 0\n0 19\n0 20",
 ];
 
-/// Files in order: the notable ones, those of up to six bytes, every beginning of the two lists, lists of about as many
-/// entries as a table has, and files that are about as long as can be.
+/// Files in order: the notable ones, tiny ones, every beginning of the two lists, lists of about as many entries as a
+/// table has, and files that are about as long as can be.
 pub fn in_order() -> impl Iterator<Item = Vec<u8>> {
     let beginnings = |list: &'static [u8]| (0..=list.len()).map(|end| list[..end].to_vec());
     let notable = NOTABLE.into_iter().map(<[u8]>::to_vec);
     notable.chain(tiny()).chain(beginnings(SHORT)).chain(beginnings(PUBLISHED)).chain(full()).chain(long())
 }
 
-/// Lists of 63 to 66 entries, each with a record before them or none, and with a last threshold that fits or not.
+/// Lists of 63 to 66 entries, each with a record before them or none, and with a last threshold that fits or not; then
+/// the same with an expiry that fits or not, and with a last threshold that fits.
 fn full() -> impl Iterator<Item = Vec<u8>> {
     let list = |entries: i128, dropped: i128, last: i128| {
         let offsets = 19 - dropped..18 + entries;
         let lines = offsets.map(|offset| (FIRST + 40_000_000 * (offset - 19), offset));
         let lines = lines.chain([(EPOCH - 18 - entries + last, 18 + entries)]);
-        lines.map(|(ntp, offset)| format!("{ntp} {offset}\n")).collect::<String>().into_bytes()
+        lines.map(|(ntp, offset)| format!("{ntp} {offset}\n")).collect::<String>()
     };
-    let lasts = move |entries, dropped| (-1..=1).map(move |near| list(entries, dropped, LAST_SECOND + near));
-    (63..=66).flat_map(move |entries| lasts(entries, 0).chain(lasts(entries, 1)))
+    let expiring = move |entries: i128, dropped: i128, tai: i128| {
+        format!("#@ {}\n{}", EPOCH - 18 - entries + tai, list(entries, dropped, LAST_SECOND))
+    };
+    let near = [-1, 0, 1];
+    let lists = (63..=66).flat_map(move |entries| [(entries, 0), (entries, 1)]).flat_map(move |(entries, dropped)| {
+        let lasts = near.map(|near| list(entries, dropped, LAST_SECOND + near));
+        let early = near.map(|near| expiring(entries, dropped, near));
+        let late = near.map(|near| expiring(entries, dropped, LAST_SECOND + near));
+        [lasts, early, late].concat()
+    });
+    lists.map(String::into_bytes)
 }
 
-/// Every file of up to six of the bytes that a small list is made of.
+/// Every file of up to six of the bytes that a small list is made of, and a list after every line of up to four of the
+/// bytes that follow `#@`.
 fn tiny() -> impl Iterator<Item = Vec<u8>> {
-    const BYTES: [u8; 7] = *b"19 \t#\n\r";
-    let of_length = |length: u32| {
-        let byte = |number: usize, place: u32| BYTES[number / BYTES.len().pow(place) % BYTES.len()];
-        (0..BYTES.len().pow(length)).map(move |number| (0..length).map(|place| byte(number, place)).collect())
-    };
-    (0..=6).flat_map(of_length)
+    let expiries = (0..=4).flat_map(|length| of_bytes(b"09 \t#@\r\n", length));
+    let with_expiry = expiries.map(|after: Vec<u8>| [b"#@", &after[..], b"\n2524953590 19\n"].concat());
+    (0..=6).flat_map(|length| of_bytes(b"19 \t#\n\r", length)).chain(with_expiry)
+}
+
+/// Every file of a length that has these bytes alone.
+fn of_bytes(bytes: &'static [u8], length: u32) -> impl Iterator<Item = Vec<u8>> {
+    let byte = |number: usize, place: u32| bytes[number / bytes.len().pow(place) % bytes.len()];
+    (0..bytes.len().pow(length)).map(move |number| (0..length).map(|place| byte(number, place)).collect())
 }
 
 /// Files around the greatest length.
@@ -111,12 +155,17 @@ fn long() -> impl Iterator<Item = Vec<u8>> {
     })
 }
 
-/// A random file: records written as lines, or one of the two lists; with some of its bytes or lines changed, or none.
+/// A random file: records written as lines, with a line for the expiry or none, or one of the two lists; with some of
+/// its bytes or lines changed, or none.
 pub fn draw(chance: &mut Chance) -> Vec<u8> {
     let mut file = match chance.below(256) {
         0 => PUBLISHED.to_vec(),
         1..=39 => SHORT.to_vec(),
-        _ => written(&records(chance), chance),
+        _ => {
+            let records = records(chance);
+            let lines = written(&records, chance);
+            with_expiry(lines, &records, chance)
+        }
     };
     for _ in 0..chance.below(5).saturating_sub(2) {
         change(&mut file, chance);
@@ -177,7 +226,7 @@ fn rise_to_the_greatest(records: &mut [Record]) {
 fn written(records: &[Record], chance: &mut Chance) -> Vec<u8> {
     const BLANKS: [&str; 4] = [" ", "\t", "      ", "\t \t"];
     const ENDS: [&str; 8] = ["", "", "", " ", "#", "# 1 Jan", " # 1 Jan 2017", "\t #\r#"];
-    const BETWEEN: [&str; 6] = ["\n", " \t\n", "#\n", "# 0 19\n", "#@\t3991593600\n", "#\r#\0\n"];
+    const BETWEEN: [&str; 6] = ["\n", " \t\n", "#\n", "# 0 19\n", "#$\t3960835200\n", "#\r#\0\n"];
     let (blanks, end) = (BLANKS[chance.below(4) as usize], ENDS[chance.below(8) as usize]);
     let digits = if chance.below(16) == 0 { chance.within(18, 21) as usize } else { 1 };
     let mut text = String::new();
@@ -188,6 +237,38 @@ fn written(records: &[Record], chance: &mut Chance) -> Vec<u8> {
         text += &format!("{ntp:0digits$}{blanks}{offset:0digits$}{end}\n");
     }
     text.into_bytes()
+}
+
+/// Puts a line for the expiry among those of a file, in two of three; now and then another one, or a malformed one.
+fn with_expiry(file: Vec<u8>, records: &[Record], chance: &mut Chance) -> Vec<u8> {
+    let mut lines: Vec<Vec<u8>> = file.split_inclusive(|byte| *byte == LF).map(<[u8]>::to_vec).collect();
+    let expiries = [0, 1, 1, 1, 1, 1, 1, 1, 0, 0, 0, 2][chance.below(12) as usize];
+    for _ in 0..expiries {
+        let place = if chance.below(2) == 0 { 0 } else { chance.below(lines.len() as u64 + 1) as usize };
+        lines.insert(place, expiry_line(records, chance));
+    }
+    lines.concat()
+}
+
+/// A line for the expiry: mostly near the limits by the last offset, and mostly well-formed.
+fn expiry_line(records: &[Record], chance: &mut Chance) -> Vec<u8> {
+    const BLANKS: [&str; 6] = [" ", "\t", "\t \t", "  ", "\t", " "];
+    const ENDS: [&str; 8] = ["", "", "", "", " ", "\t ", "", ""];
+    const WRONG: [&str; 8] = ["", "#", " 1", "\r", " # 2026", "x", ".", "\0"];
+    let near = chance.within(-2, 2);
+    let last = records.last().map_or(19, |(_, offset)| *offset);
+    let ntp = match chance.below(8) {
+        0 | 1 => EPOCH - last + near,
+        2 | 3 => EPOCH - last + LAST_SECOND + near,
+        4 => (1 << 64) + near,
+        5 => chance.of_length_up_to(64).abs(),
+        _ => 3_991_593_600,
+    };
+    let digits = if chance.below(8) == 0 { chance.within(18, 21) as usize } else { 1 };
+    let wrong = chance.below(8) == 0;
+    let blanks = if wrong && chance.below(4) == 0 { "" } else { BLANKS[chance.below(6) as usize] };
+    let end = if wrong { WRONG[chance.below(8) as usize] } else { ENDS[chance.below(8) as usize] };
+    format!("#@{blanks}{ntp:0digits$}{end}\n").into_bytes()
 }
 
 /// One change of a file's bytes or lines.
@@ -206,7 +287,7 @@ fn change(file: &mut Vec<u8>, chance: &mut Chance) {
 
 /// A byte that lists have or could be thought to have, now and then another.
 fn byte(chance: &mut Chance) -> u8 {
-    const LIKELY: [u8; 20] = *b"0129 \t#\n\r-+.x\x0b\0\xff7\n #";
+    const LIKELY: [u8; 20] = *b"0129 \t#\n\r-+.x\x0b\0\xff7\n@#";
     if chance.below(8) == 0 {
         chance.next() as u8
     } else {

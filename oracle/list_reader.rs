@@ -1,7 +1,7 @@
 //! A second reader of a published leap-seconds.list, written from the rules alone. It goes over the whole file for each
 //! rule, in the order in which the rules refuse.
 
-use crate::images::{image, IMAGE_BYTES};
+use crate::images::{image, with_expiry, NO_EXPIRY};
 use gnss_time::{LeapEntry, RUNTIME_CAPACITY};
 
 /// What a reader answers: the refusal's number or 0, the number of the malformed line or 0, and the image.
@@ -26,6 +26,8 @@ type Step = (i128, i32);
 
 const MOST_BYTES: usize = 65_536;
 const MOST_DIGITS: usize = 20;
+/// What a line begins with that gives the expiry.
+const EXPIRY_MARK: &[u8] = b"#@";
 const LF: u8 = 10;
 const CR: u8 = 13;
 /// The NTP second of the GPS epoch, 1980-01-06, which is 29,224 days after 1900-01-01.
@@ -44,13 +46,14 @@ pub const BAD_LIST: u32 = 12;
 
 /// What is due for a file.
 pub fn read(file: &[u8]) -> Reading {
-    match entries_of(file) {
-        Ok(entries) => Reading { number: 0, line: 0, image: image(&entries) },
-        Err((number, line)) => Reading { number, line, image: vec![0; IMAGE_BYTES] },
+    match table_of(file) {
+        Ok((entries, expiry)) => Reading { number: 0, line: 0, image: with_expiry(&image(&entries), expiry) },
+        Err((number, line)) => Reading { number, line, image: image(&[]) },
     }
 }
 
-fn entries_of(file: &[u8]) -> Result<Vec<LeapEntry>, Refused> {
+/// The entries and the expiry.
+fn table_of(file: &[u8]) -> Result<(Vec<LeapEntry>, u64), Refused> {
     not_too_long(file)?;
     let lines = lines_of(file);
     every_line_is_well_formed(&lines)?;
@@ -60,10 +63,12 @@ fn entries_of(file: &[u8]) -> Result<Vec<LeapEntry>, Refused> {
     let mut kept: Vec<Step> = vec![(0, FIRST_OFFSET)];
     kept.extend(records[first + 1..].iter().map(|record| (threshold(record), record.offset)));
     every_threshold_fits(&kept)?;
+    let expiry = expiry_of(&lines, &records)?;
     not_too_many(&kept)?;
     every_step_follows(&dropped)?;
     every_step_follows(&kept)?;
-    Ok(kept.iter().map(|(seconds, offset)| LeapEntry::new((seconds * NANOS_PER_SECOND) as u64, *offset)).collect())
+    let entry = |(seconds, offset): &Step| LeapEntry::new((seconds * NANOS_PER_SECOND) as u64, *offset);
+    Ok((kept.iter().map(entry).collect(), expiry))
 }
 
 fn not_too_long(file: &[u8]) -> Result<(), Refused> {
@@ -79,19 +84,47 @@ fn lines_of(file: &[u8]) -> Vec<&[u8]> {
     lines
 }
 
+/// Every line has a form, and none after the first that begins with `#@` begins so again.
 fn every_line_is_well_formed(lines: &[&[u8]]) -> Result<(), Refused> {
-    match lines.iter().position(|line| !well_formed(line)) {
+    let of_expiry = lines.iter().position(|line| line.starts_with(EXPIRY_MARK)).unwrap_or(lines.len());
+    let again = |place: usize| place > of_expiry && lines[place].starts_with(EXPIRY_MARK);
+    match (0..lines.len()).find(|place| again(*place) || !well_formed(lines[*place])) {
         Some(place) => Err((BAD_LIST, place as u64 + 1)),
         None => Ok(()),
     }
 }
 
 fn well_formed(line: &[u8]) -> bool {
-    line.last() != Some(&CR) && (is_comment(line) || is_blank(line) || record_in(line).is_some())
+    let has_a_form = if line.starts_with(EXPIRY_MARK) {
+        expiry_in(line).is_some()
+    } else {
+        is_comment(line) || is_blank(line) || record_in(line).is_some()
+    };
+    line.last() != Some(&CR) && has_a_form
 }
 
 fn is_comment(line: &[u8]) -> bool {
     line.first() == Some(&b'#')
+}
+
+/// The NTP second of a line that is `#@`, blanks, a number, and blanks or none.
+fn expiry_in(line: &[u8]) -> Option<u64> {
+    let after = line.strip_prefix(EXPIRY_MARK)?;
+    if !after.first().is_some_and(blank) {
+        return None;
+    }
+    let words: Vec<&[u8]> = after.split(blank).filter(|word| !word.is_empty()).collect();
+    let [ntp] = words[..] else { return None };
+    u64::try_from(number_in(ntp)?).ok()
+}
+
+/// The expiry in TAI nanoseconds: that of the file by the offset of its last record, or none.
+fn expiry_of(lines: &[&[u8]], records: &[Record]) -> Result<u64, Refused> {
+    let (Some(ntp), Some(last)) = (lines.iter().find_map(|line| expiry_in(line)), records.last()) else {
+        return Ok(NO_EXPIRY);
+    };
+    let seconds = threshold(&Record { ntp, offset: last.offset });
+    u64::try_from(seconds * NANOS_PER_SECOND).map_err(|_| (OVERFLOW, 0))
 }
 
 fn is_blank(line: &[u8]) -> bool {

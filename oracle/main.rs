@@ -7,10 +7,13 @@ mod call;
 mod calls;
 mod chance;
 mod compare;
+mod dated_questions;
+mod dated_rules;
 mod dates;
 mod differences;
 mod epochs;
 mod examples;
+mod expiries;
 mod header;
 mod images;
 mod inputs;
@@ -50,13 +53,13 @@ fn main() -> ExitCode {
     compare::silence_the_crate();
     images::prepare(options.seed);
     lists::prepare(options.seed);
-    let calls = calls::calls();
+    let (calls, with_expiries) = (calls::calls(), expiries::calls());
     if let Some(file) = options.record {
-        if let Err(error) = std::fs::write(&file, record::recorded(&calls)) {
+        if let Err(error) = std::fs::write(&file, record::recorded(&calls, &with_expiries)) {
             return failed(&format!("cannot write {file}: {error}"));
         }
     }
-    let disagreements = header::disagreements(&calls, &published::prototype());
+    let disagreements = header::disagreements(calls.iter().chain(&with_expiries), &published::prototype());
     if !disagreements.is_empty() {
         return failed(&format!("include/plaitgate.h and the oracle disagree\n{}", disagreements.join("\n")));
     }
@@ -72,7 +75,7 @@ fn main() -> ExitCode {
     if !untrue.is_empty() {
         return failed(&format!("docs/DIFFERENCES.md is not true of the crate\n{}", untrue.join("\n")));
     }
-    run(&calls, options.seed, options.count)
+    run(&calls, &with_expiries, options.seed, options.count)
 }
 
 fn options() -> Option<Options> {
@@ -90,29 +93,45 @@ fn options() -> Option<Options> {
     Some(options)
 }
 
-fn run(calls: &[call::Call], seed: u64, count: u64) -> ExitCode {
-    let processor = std::env::consts::ARCH;
-    println!("oracle: for {processor}, seed {seed}, all edges and {count} random inputs for each call");
-    println!("{:<32} {:>11} {:>11} {:>16}", "call", "comparisons", "refusals", "crate panicked");
-    let mut comparisons = 0;
-    let mut differences = 0;
-    let mut refusals: BTreeMap<u32, u64> = BTreeMap::new();
-    shifted::laters_met(); // by the recorded list and the examples
-    for call in calls {
+/// What was seen of several calls.
+#[derive(Default)]
+struct Seen {
+    comparisons: u64,
+    differences: u64,
+    refusals: BTreeMap<u32, u64>,
+}
+
+impl Seen {
+    fn compare(&mut self, call: &call::Call, seed: u64, count: u64) {
         let tally = compare::compare(call, seed, count);
         let refused: u64 = tally.refusals.values().sum();
         println!("{:<32} {:>11} {:>11} {:>16}", call.name, tally.comparisons, refused, tally.panics);
         for shown in &tally.shown {
             println!("DIFFERENCE {shown}");
         }
-        comparisons += tally.comparisons;
-        differences += tally.differences;
+        self.comparisons += tally.comparisons;
+        self.differences += tally.differences;
         for (number, times) in tally.refusals {
-            *refusals.entry(number).or_default() += times;
+            *self.refusals.entry(number).or_default() += times;
         }
     }
-    if differences > 0 {
-        return failed(&format!("{differences} differences in {comparisons} comparisons"));
+}
+
+fn run(calls: &[call::Call], with_expiries: &[call::Call], seed: u64, count: u64) -> ExitCode {
+    let processor = std::env::consts::ARCH;
+    println!("oracle: for {processor}, seed {seed}, all edges and {count} random inputs for each call");
+    println!("{:<32} {:>11} {:>11} {:>16}", "call", "comparisons", "refusals", "crate panicked");
+    let (mut seen, mut dated) = (Seen::default(), Seen::default());
+    // what the recorded list and the examples met is left out
+    shifted::laters_met();
+    expiries::all_met();
+    calls.iter().for_each(|call| seen.compare(call, seed, count));
+    println!("oracle: by the rules, with expiries");
+    with_expiries.iter().for_each(|call| dated.compare(call, seed, count));
+    let Seen { comparisons, differences, refusals } = seen;
+    if differences + dated.differences > 0 {
+        let all = comparisons + dated.comparisons;
+        return failed(&format!("{} differences in {all} comparisons", differences + dated.differences));
     }
     let each: Vec<String> = refusals.iter().map(|(number, times)| format!("{number}: {times}")).collect();
     println!("oracle: how often each refusal came, by number: {}", each.join(", "));
@@ -127,6 +146,12 @@ fn run(calls: &[call::Call], seed: u64, count: u64) -> ExitCode {
             return failed("a later count was not met in each of the three ways");
         }
     }
+    let (sentence, all_came) = expiries::all_met();
+    println!("oracle: {sentence}");
+    if !all_came {
+        return failed("an expiry was not met in each of the five ways");
+    }
+    println!("oracle: {} comparisons by the rules, with expiries, no difference", dated.comparisons);
     match published::compare(seed, count) {
         Ok(sentences) => sentences.iter().for_each(|sentence| println!("oracle: {sentence}")),
         Err(reason) => return failed(&reason),

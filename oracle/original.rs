@@ -63,6 +63,13 @@ impl<A: Answer> Answer for Result<A, GnssTimeError> {
     }
 }
 
+/// An answer of the crate by a table, and the port's yes or no, which is no: the crate's tables have no expiry.
+pub fn never_stale(answer: impl Answer) -> Outcome {
+    let mut results = answer.outcome()?;
+    results.push(0);
+    Ok(results)
+}
+
 macro_rules! plain_answers {
     ($($number:ty)*) => {$(
         impl Answer for $number {

@@ -3,7 +3,7 @@
 
 use crate::call::prototype_of;
 use crate::chance::Chance;
-use crate::images::{words, IMAGE_BYTES};
+use crate::images::{with_expiry, words, IMAGE_BYTES};
 use crate::list_files::{self, PUBLISHED};
 use crate::list_reader::{self, Reading, BAD_LIST};
 use crate::number::{Number, Place};
@@ -22,7 +22,8 @@ extern "C" {
 
 /// The declaration that the header has to have.
 pub fn prototype() -> String {
-    let inputs = [("*list", "const uint8_t"), ("list_bytes", "size_t"), ("*image", "uint8_t"), ("image_bytes", "size_t")];
+    let inputs =
+        [("*list", "const uint8_t"), ("list_bytes", "size_t"), ("*image", "uint8_t"), ("image_bytes", "size_t")];
     prototype_of("read_leap_list", &inputs, &[("line", u64::KIND)])
 }
 
@@ -167,17 +168,21 @@ fn said(reading: &Reading) -> String {
     format!("{number}, line {line}, and an image of zeros except {words:?}")
 }
 
-/// The lists as they were published, the one here and Debian's: each is the built-in table for both readers.
+/// The expiry of the list here: 28 June 2026 is NTP second 3,991,593,600, and the last offset is 37.
+const EXPIRY_HERE: u64 = (3_991_593_600 - 2_524_953_600 + 37) * 1_000_000_000;
+
+/// The lists as they were published, the one here and Debian's: each is the built-in table with an expiry for both
+/// readers, and the one here has that of its date.
 fn published_lists() -> Result<String, String> {
     const HERE: &str = "data/leap-seconds.list";
-    is_the_builtin_table(HERE, PUBLISHED)?;
+    let expiry = expiry_of_builtin_entries(HERE, PUBLISHED)?;
+    if expiry != EXPIRY_HERE {
+        return Err(format!("{HERE} expires at {expiry}, and not on 28 June 2026, at {EXPIRY_HERE}"));
+    }
     with_cr_lf_is_refused_at_line_1()?;
-    let mut lists = vec![HERE];
+    let mut lists = vec![format!("{HERE} (expiry {expiry})")];
     match std::fs::read(DEBIAN) {
-        Ok(list) => {
-            is_the_builtin_table(DEBIAN, &list)?;
-            lists.push(DEBIAN);
-        }
+        Ok(list) => lists.push(format!("{DEBIAN} (expiry {})", expiry_of_builtin_entries(DEBIAN, &list)?)),
         Err(error) if std::env::var("CI").as_deref() == Ok("true") => {
             return Err(format!("cannot read {DEBIAN} (Debian's tzdata): {error}; with CI=true it is read"));
         }
@@ -186,19 +191,21 @@ fn published_lists() -> Result<String, String> {
     Ok(format!("the built-in table was read from {}; with CR LF the first is refused at line 1", lists.join(" and ")))
 }
 
-fn is_the_builtin_table(name: &str, list: &[u8]) -> Result<(), String> {
+/// The expiry of a list, which has to be the built-in table otherwise.
+fn expiry_of_builtin_entries(name: &str, list: &[u8]) -> Result<u64, String> {
     let mut image = vec![0; IMAGE_BYTES];
     // SAFETY: the image is so long
     let number = unsafe { plaitgate_table_from_builtin(image.as_mut_ptr(), image.len()) };
-    let builtin = Reading { number, line: 0, image };
-    let readings = [("the oracle's reader", Some(due(list, IMAGE_BYTES))), ("the port", port(list, IMAGE_BYTES))];
-    for (reader, reading) in readings {
+    let by_the_oracle = due(list, IMAGE_BYTES);
+    let expiry = u64::from_le_bytes(by_the_oracle.image[IMAGE_BYTES - 8..].try_into().expect("8 bytes"));
+    let builtin = Reading { number, line: 0, image: with_expiry(&image, expiry) };
+    for (reader, reading) in [("the oracle's reader", Some(by_the_oracle)), ("the port", port(list, IMAGE_BYTES))] {
         if reading.as_ref() != Some(&builtin) {
             let other = reading.as_ref().map_or(SPILLED.to_string(), said);
-            return Err(format!("{name} is not the built-in table: {reader}: {other}"));
+            return Err(format!("{name} is not the built-in table with the expiry {expiry}: {reader}: {other}"));
         }
     }
-    Ok(())
+    Ok(expiry)
 }
 
 fn with_cr_lf_is_refused_at_line_1() -> Result<(), String> {

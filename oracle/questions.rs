@@ -12,6 +12,7 @@ use crate::lists::up_to_three;
 use crate::number::Number;
 use crate::original::{refusal_of, Answer, BAD_TABLE};
 use gnss_time::{LeapEntry, LeapSeconds, LeapSecondsProvider, RuntimeLeapSeconds, Time};
+use std::ops::RangeInclusive;
 
 /// A question: its number and name, what it is asked with and answered by, and the crate's answer.
 pub struct Question {
@@ -23,11 +24,24 @@ pub struct Question {
     pub due: fn(&[i128]) -> Written,
 }
 
-/// Constants have numbers from here on; those below are the places of calls.
+/// The numbers of the calls with an expiry (expiries.rs), by their place there.
+pub const WITH_EXPIRY: RangeInclusive<usize> = 158..=173;
+/// Constants have numbers from here on.
 const CONSTANTS: usize = 201;
 
+/// The number of a call by its place in the table: from 1, without those of the calls with an expiry.
+pub fn number_of_call(place: usize) -> usize {
+    let number = place + 1;
+    if number < *WITH_EXPIRY.start() {
+        number
+    } else {
+        number + WITH_EXPIRY.count()
+    }
+}
+
 pub fn questions(calls: &[Call]) -> Vec<Question> {
-    let number = &|name| 1 + calls.iter().position(|call| call.name == name).expect("the table has the call");
+    let place = |name| calls.iter().position(|call| call.name == name).expect("the table has the call");
+    let number = &|name| number_of_call(place(name));
     changes(number).into_iter().chain(lists(number)).chain(constants()).collect()
 }
 

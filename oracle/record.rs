@@ -3,9 +3,10 @@
 use crate::call::{Call, Named, Written};
 use crate::chance::Chance;
 use crate::compare;
+use crate::dated_questions;
 use crate::images::{prepared, RECORDED};
 use crate::inputs::{Group, Trials};
-use crate::questions::questions;
+use crate::questions::{number_of_call, questions, WITH_EXPIRY};
 use gnss_time::LeapEntry;
 use std::collections::{BTreeMap, BTreeSet, HashSet};
 use std::fmt::Write;
@@ -34,17 +35,33 @@ impl Asked<'_> {
     }
 }
 
-/// The calls of the table that are recorded as they are, and the other questions, in the order of their numbers.
-fn all_asked(calls: &[Call]) -> Vec<Asked<'_>> {
+/// The calls of the table that are recorded as they are, those with an expiry, and the other questions, in the order of
+/// their numbers.
+fn all_asked<'a>(calls: &'a [Call], with_expiries: &'a [Call]) -> Vec<Asked<'a>> {
     let names = |all: &'static [Named]| all.iter().map(|(name, _)| *name).collect();
     let of_calls = calls.iter().enumerate().filter_map(|(place, call)| {
+        let told = told_by_the_crate(call.results);
         Some(Asked {
-            number: place + 1,
+            number: number_of_call(place),
             name: call.name,
             inputs: names(call.inputs),
-            results: names(call.results),
+            results: names(told),
             trials: (call.recorded?)(call.inputs),
-            due: Box::new(|inputs| compare::due(call, inputs).written),
+            due: Box::new(|inputs| {
+                let written = compare::due(call, inputs).written?;
+                Some(Written { results: written.results[..told.len()].to_vec(), ..written })
+            }),
+        })
+    });
+    let dated = with_expiries.iter().enumerate().filter_map(|(place, call)| {
+        let trials = (call.recorded?)(call.inputs);
+        Some(Asked {
+            number: WITH_EXPIRY.start() + place,
+            name: call.name,
+            inputs: names(call.inputs),
+            results: names(&call.results[..2]),
+            trials,
+            due: Box::new(|inputs| dated_questions::due(calls, call, inputs)),
         })
     });
     let others = questions(calls).into_iter().map(|question| Asked {
@@ -55,13 +72,22 @@ fn all_asked(calls: &[Call]) -> Vec<Asked<'_>> {
         trials: question.trials,
         due: Box::new(move |inputs| Some((question.due)(inputs))),
     });
-    let mut asked: Vec<Asked> = of_calls.chain(others).collect();
+    let mut asked: Vec<Asked> = of_calls.chain(dated).chain(others).collect();
     asked.sort_by_key(|asked| asked.number);
+    assert!(asked.windows(2).all(|pair| pair[0].number < pair[1].number), "two questions have one number");
     asked
 }
 
-pub fn recorded(calls: &[Call]) -> String {
-    let asked = all_asked(calls);
+/// The results without the yes or no of a call by a table, which the crate does not tell.
+fn told_by_the_crate(results: &'static [Named]) -> &'static [Named] {
+    match results {
+        [told @ .., ("stale", _)] => told,
+        all => all,
+    }
+}
+
+pub fn recorded(calls: &[Call], with_expiries: &[Call]) -> String {
+    let asked = all_asked(calls, with_expiries);
     let mut list = legend(&asked);
     for asked in &asked {
         let mut seen = HashSet::new();
@@ -78,6 +104,7 @@ fn legend(asked: &[Asked]) -> String {
     let mut legend = format!(
         "# Answers of the crate gnss-time 0.9.1, made by: oracle/run --record FILE (seed {SEED})\n\
          # Those for Galileo and BeiDou are moved to the port's counts (oracle/README.md).\n\
+         # The crate has no expiry: whether an answer is stale, and a table's expiry, are by the rules (same place).\n\
          # A line: the question's number, its inputs, the number of the refusal (0: answered), the results.\n\
          # The questions, with their inputs and results:\n"
     );

@@ -21,7 +21,7 @@ struct Slip {
 extern "C" {
     fn plaitgate_builtin_gps_to_utc(gps: u64, utc: *mut u64) -> u32;
     fn plaitgate_builtin_utc_to_gps(utc: u64, gps: *mut u64) -> u32;
-    fn plaitgate_table_utc_to_gps(utc: u64, image: *const u8, bytes: usize, gps: *mut u64) -> u32;
+    fn plaitgate_table_utc_to_gps(utc: u64, image: *const u8, bytes: usize, gps: *mut u64, stale: *mut u8) -> u32;
     fn plaitgate_entry_of_event(year: i32, month: u8, day: u8, tai_minus_utc: i32, tai_nanos: *mut u64) -> u32;
     fn plaitgate_table_try_extend(image: *mut u8, bytes: usize, tai_nanos: u64, tai_minus_utc: i32) -> u32;
     #[allow(clippy::too_many_arguments)]
@@ -137,7 +137,9 @@ fn slips() -> Vec<Slip> {
             wrong: zero_where_b_is_no_count(&far, u64::MAX),
             wrong_is: Ok(18_446_744_064_709_551_615),
             right: Ok(18_446_744_065_709_551_615),
-            port: asked(|gps| unsafe { plaitgate_table_utc_to_gps(u64::MAX, far_image.as_ptr(), far_image.len(), gps) }),
+            port: asked(|gps| unsafe {
+                plaitgate_table_utc_to_gps(u64::MAX, far_image.as_ptr(), far_image.len(), gps, &mut 0)
+            }),
         },
         Slip {
             name: "4 before 7",
