@@ -111,8 +111,7 @@ pub fn reading_of(tai: CountAnswer) -> u64
     count_or(tai, 0)
 }
 
-// A TAI reading as UTC, by what a lookup there tells.
-pub fn utc_of_reading(found: Lookup, tai: CountAnswer) -> CountAnswer
+fn utc_of_reading(found: Lookup, tai: CountAnswer) -> CountAnswer
     ensures { λ r. ⌜ countIn r ≡ utcFromLookup (countIn tai) found ⌝ }
 {
     match tai {
@@ -121,7 +120,7 @@ pub fn utc_of_reading(found: Lookup, tai: CountAnswer) -> CountAnswer
     }
 }
 
-// The same, or the refusal of the lookup.
+// A TAI reading as UTC, by what a lookup there tells.
 pub fn utc_from_lookup(found: LookupAnswer, tai: CountAnswer) -> CountAnswer
     ensures { λ r. ⌜ countIn r ≡ then (lookupIn found) (utcFromLookup (countIn tai)) ⌝ }
 {

@@ -30,7 +30,7 @@ use conversions::inner::last_reading_of;
 use conversions::inner::reading_of;
 use conversions::inner::steps;
 use conversions::inner::tai_of;
-use conversions::inner::utc_of_reading;
+use conversions::inner::utc_from_lookup;
 use counts::CountAnswer;
 use counts::sums;
 use refusals::Refusal;
@@ -188,13 +188,7 @@ pub fn tai_minus_utc_at(image: &[u8], tai: Tai) -> DatedOffset
         datedByImage (now (image .entry)) (λ es. tai .0) (λ es. answered (offsetAt es (tai .0))) ⌝ }
 {
     let found = lookup::checked_look_up(image, tai.0);
-    match found {
-        LookupAnswer::Told(_) => dated_offset_in(found, slots::expiry(image), tai.0),
-        LookupAnswer::Refused(why) => DatedOffset {
-            answer: OffsetAnswer::Refused(why),
-            stale: false,
-        },
-    }
+    dated_offset_in(found, slots::expiry(image), tai.0)
 }
 
 // The TAI reading from which on the table is stale, or nothing.
@@ -226,7 +220,8 @@ pub fn set_expiry(image: &mut [u8], expiry: Tai) -> Taken
     inner::store(image, after)
 }
 
-// Refuses 8, then what the step before refused, then 1, 9, 1: the table, the TAI reading, the offset, the result.
+// Refuses 8, then what the step before refused, then 1, 9, 1: the table, the TAI reading, the offset, the result. The
+// expiry is read before the lookup: after it the compiler leaves the function out of line.
 pub fn utc_from_gps(gps: CountAnswer, image: &[u8]) -> DatedCount
     ensures { λ r. ⌜ datedIn r ≡
         datedByImage (now (image .entry)) (λ es. valueIn 0 (countIn gps) + taiMinusGps)
@@ -234,13 +229,9 @@ pub fn utc_from_gps(gps: CountAnswer, image: &[u8]) -> DatedCount
 {
     let tai = tai_of(gps);
     let reading = reading_of(tai);
-    match lookup::checked_look_up(image, reading) {
-        LookupAnswer::Told(found) => {
-            let stale = is_stale(slots::expiry(image), reading);
-            date(utc_of_reading(found, tai), stale)
-        }
-        LookupAnswer::Refused(why) => date(CountAnswer::Refused(why), false),
-    }
+    let stale = is_stale(slots::expiry(image), reading);
+    let found = lookup::checked_look_up(image, reading);
+    date(utc_from_lookup(found, tai), stale)
 }
 
 // Refuses 8, then what the step before refused, then 9, 1: the table, the offset, the result. Where a UTC count repeats

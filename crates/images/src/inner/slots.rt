@@ -1,16 +1,19 @@
 // The slots, the length and the expiry of the table in an image of 784 bytes, each read where it stands.
 ghost use mathlib.Core.Path.{_≡_};
+ghost use mathlib.Core.Bool.{cond};
 ghost use Prim.Native.Nat.{_<_};
 ghost use lib.ListN.{length, getD};
 ghost use lib.IntN.{pos};
-ghost use Rattle.tables.specs.Slots.{slotAt};
-ghost use Rattle.images.specs.Image.{imageBytes, tableIn};
+ghost use Rattle.tables.specs.Slots.{slotAt, noExpiry};
+ghost use Rattle.images.specs.Image.{imageBytes, sized, tableIn};
 use crate::inner::EXPIRY_AT;
+use crate::inner::IMAGE_BYTES;
 use crate::inner::LENGTH_BYTES;
 use crate::inner::OFFSET_BYTES;
 use crate::inner::OFFSETS_AT;
 use crate::inner::THRESHOLD_BYTES;
 use tables::LeapEntry;
+use tables::NO_EXPIRY;
 use words::inner::number_in_4;
 use words::inner::number_in_8;
 use words::inner::signed;
@@ -23,12 +26,15 @@ pub fn len(image: &[u8]) -> usize
     number_in_8(image, 0) as usize
 }
 
-// The expiry of the table in an image.
+// The expiry of the table in an image; none where the bytes are no image.
 pub fn expiry(image: &[u8]) -> u64
-    requires { ⌜ length (now image) ≡ imageBytes ⌝ }
-    ensures { λ r. ⌜ r ≡ tableIn (now (image .entry)) .expiry ⌝ }
+    ensures { λ r. ⌜ r ≡ cond (sized (now (image .entry))) (tableIn (now (image .entry)) .expiry) noExpiry ⌝ }
 {
-    number_in_8(image, EXPIRY_AT)
+    if image.len() == IMAGE_BYTES {
+        number_in_8(image, EXPIRY_AT)
+    } else {
+        NO_EXPIRY
+    }
 }
 
 // The threshold in slot i.

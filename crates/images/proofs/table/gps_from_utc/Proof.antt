@@ -15,7 +15,7 @@ use Rattle.conversions.proofs.ByLookup.{gps-from-store}
 use Rattle.conversions.proofs.Dated.{at-utc}
 use Rattle.images.specs.Image.{tableIn}
 use Rattle.images.proofs.Held.{Held, holds, held, one-test}
-use Rattle.images.proofs.Dated.{in-one}
+use Rattle.images.proofs.Dated.{of-image, in-one}
 use borrow.Author.Needs.{needs}
 use Rattle.images.proofs.table.gps_from_utc as call
 
@@ -52,7 +52,7 @@ returns c =
     ∙ gps-from-store (holds b) es (countIn (a .utc)) fa (told first) (last .last-reading-of .ensures)
     (found .look-up .ensures) in
     let reads = stale .is-stale .ensures
-    ∙ (λ i. staleAt (expiry .expiry .ensures i) (last .last-reading-of .result)) in
+    ∙ (λ i. staleAt ((expiry .expiry .ensures ∙ of-image b (known first .size)) i) (last .last-reading-of .result)) in
     c .date .ensures ∙ (λ i. dated (reads i) (counts i))
     ∙ at-utc (tableIn b .expiry) (holds b) es (countIn (a .utc)) fa (told first) (last .last-reading-of .ensures)
     ∙ sym (in-one b (λ es. lastReading es (valueIn 0 (countIn (a .utc)))) (λ es. then (countIn (a .utc)) (utcToGps es)))
@@ -78,7 +78,7 @@ gps-from-utc-spec =
     (λ c. search needs)
     (λ c κs. search needs)
     look-up-requires
-    (λ c κs. known (c .before .before .before) .size)
+    (λ c κs. search needs)
     (λ c κs. search needs)
     (λ c κs. search needs)
     (λ c κs. search needs)
