@@ -7,17 +7,17 @@ use Prim.Native.Nat.{ℕ, zero, suc, _+_, _-_, _≤_, _<_}
 use native.Mathlib.Numerals.{add-one}
 use native.Mathlib.Decide.{decLt}
 use native.Mathlib.Omega.{arith}
-use borrow.Author.Tests.{eqb-true, eq-eqb, ne-eqb}
+use borrow.Author.Tests.{eqb-true, ne-eqb}
 use lib.Dec.{eqb}
 use lib.ListN.{length, getD, take, drop, length-drop, drop-of-length-le, List·getD-eq-default}
 use lib.Seq.{drop-cons, getD-take, getD-drop, length-take-le}
-use Rattle.refusals.specs.Outcome.{Outcome, refused}
+use Rattle.refusals.specs.Outcome.{refused}
 use Rattle.words.specs.Decimal.{isDigit, countRead}
 use Rattle.texts.specs.Ends.{untilEnd}
 use Rattle.texts.proofs.FirstLine.{until-within}
-use Rattle.published.specs.LeapSecondsList.{takeWhile, dropWhile, begins, isBlank, isHash, endsInReturn}
-use Rattle.published.specs.LeapSecondsList.{malformed, in31Bits, offsetRead, expiresAt, expiryRead}
-use Rattle.published.specs.Places.{firstLine}
+use Rattle.published.specs.LeapSecondsList.{takeWhile, dropWhile, begins, isBlank, endsInReturn}
+use Rattle.published.specs.LeapSecondsList.{fieldRead}
+use Rattle.published.specs.Places.{firstLine, opens, endsField}
 
 pub length-line : (s : List ℕ) → length (firstLine s) ≡ untilEnd s
 length-line s = length-take-le (untilEnd s) s (until-within s)
@@ -73,45 +73,30 @@ begins-byte test e s i = by-place (decLt i (length s))
         let h : length s ≤ i = omega (arith, past) in
         rw (drop-of-length-le s {i = i} h, List·getD-eq-default s 0 {n = i} h) (sym e)
 
--- the sign of a comment, or the end of a line
-abbrev pub endsData : ℕ → Bool
-endsData b = isHash b || eqb b 10
-
-pub data-ends-line : (s : List ℕ) → begins true isHash (firstLine s) ≡ begins true endsData s
-data-ends-line [] = refl
-data-ends-line (b ∷ s) = by-byte (eqb b 10) refl
+-- what may follow a field
+pub field-ends-line : (comment : Bool) (s : List ℕ)
+    → begins true (opens comment) (firstLine s) ≡ begins true (endsField comment) s
+field-ends-line comment [] = refl
+field-ends-line comment (b ∷ s) = by-byte (eqb b 10) refl
   where
-    by-byte : (t : Bool) → eqb b 10 ≡ t → begins true isHash (firstLine (b ∷ s)) ≡ endsData b
+    by-byte : (t : Bool) → eqb b 10 ≡ t
+        → begins true (opens comment) (firstLine (b ∷ s)) ≡ endsField comment b
     by-byte true e = rw (e, or-true)
     by-byte false e = rw (e, or-false)
 
--- the reader of an offset may look at the text
-pub offset-line : (s : List ℕ)
-    → offsetRead (firstLine s)
-    ≡ cond (begins false isBlank s && begins true endsData (dropWhile isBlank (dropWhile isDigit (dropWhile isBlank s))))
-    (in31Bits (countRead (takeWhile isDigit (dropWhile isBlank s)))) (refused 12)
-offset-line s =
+-- the reader of a field may look at the text
+pub field-line : (comment : Bool) (s : List ℕ)
+    → fieldRead (opens comment) (firstLine s)
+    ≡ cond (begins false isBlank s
+    && begins true (endsField comment) (dropWhile isBlank (dropWhile isDigit (dropWhile isBlank s))))
+    (countRead (takeWhile isDigit (dropWhile isBlank s))) (refused 12)
+field-line comment s =
     rw (
       begins-line isBlank refl s,
       drop-line isBlank refl s,
       drop-line isDigit refl (dropWhile isBlank s),
       drop-line isBlank refl (dropWhile isDigit (dropWhile isBlank s)),
-      data-ends-line (dropWhile isBlank (dropWhile isDigit (dropWhile isBlank s))),
-      take-line isDigit refl (dropWhile isBlank s),
-    )
-
--- and so may the reader of an expiry
-pub expiry-line : (s : List ℕ)
-    → expiryRead (firstLine s)
-    ≡ cond (begins false isBlank s && eqb (untilEnd (dropWhile isBlank (dropWhile isDigit (dropWhile isBlank s)))) 0)
-    (expiresAt (countRead (takeWhile isDigit (dropWhile isBlank s)))) malformed
-expiry-line s =
-    rw (
-      begins-line isBlank refl s,
-      drop-line isBlank refl s,
-      drop-line isDigit refl (dropWhile isBlank s),
-      drop-line isBlank refl (dropWhile isDigit (dropWhile isBlank s)),
-      length-line (dropWhile isBlank (dropWhile isDigit (dropWhile isBlank s))),
+      field-ends-line comment (dropWhile isBlank (dropWhile isDigit (dropWhile isBlank s))),
       take-line isDigit refl (dropWhile isBlank s),
     )
 

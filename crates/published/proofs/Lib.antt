@@ -1,7 +1,7 @@
 pub mod Parts
 pub mod InLine
 pub mod Digits
-pub mod Offsets
+pub mod Fields
 pub mod Expiries
 pub mod LineKinds
 pub mod WholeFile

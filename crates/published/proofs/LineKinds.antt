@@ -12,13 +12,13 @@ use Rattle.words.specs.Decimal.{isDigit, countRead}
 use Rattle.texts.specs.Ends.{untilEnd}
 use Rattle.texts.proofs.LineEnds.{passed}
 use Rattle.texts.proofs.FirstLine.{until-within}
-use Rattle.published.specs.LeapSecondsList.{Line, passes, holds, malformed, takeWhile, dropWhile, begins, isBlank, isHash}
+use Rattle.published.specs.LeapSecondsList.{passes, holds, malformed, takeWhile, dropWhile, begins, isBlank, isHash}
 use Rattle.published.specs.LeapSecondsList.{beginsExpiry, endsInReturn, offsetRead, lineWith, recordAt, lineRead}
 use Rattle.published.specs.Places.{firstLine, Passed, in64Bits}
 use Rattle.published.proofs.Parts.{take-here, drop-here}
 use Rattle.published.proofs.InLine.{length-line, drop-line, take-line, begins-line, line-on, begins-byte, blanks-end}
 use Rattle.published.proofs.Digits.{from-zero}
-use Rattle.published.proofs.Offsets.{begins-at, is-read}
+use Rattle.published.proofs.Fields.{begins-at, is-read}
 
 -- ---- where a line ends
 pub end-within : (s : List ℕ) (at : ℕ) → at ≤ length s → at + untilEnd (drop at s) ≤ length s

@@ -59,11 +59,15 @@ abbrev pub in31Bits : Outcome ℕ → Outcome ℕ
 in31Bits (answered n) = cond (ltb n (2 ^ 31)) (answered n) (refused 12)
 in31Bits (refused k) = refused 12
 
--- the rest of a line after the NTP seconds: one or more blanks, the offset, any blanks, perhaps a comment
+-- one or more blanks, a number, any blanks, and then nothing or a byte that passes a test
+abbrev pub fieldRead : (ℕ → Bool) → List ℕ → Outcome ℕ
+fieldRead test rest =
+    cond (begins false isBlank rest && begins true test (dropWhile isBlank (dropWhile isDigit (dropWhile isBlank rest))))
+    (countRead (takeWhile isDigit (dropWhile isBlank rest))) (refused 12)
+
+-- the rest of a line after the NTP seconds: the offset, and perhaps a comment
 abbrev pub offsetRead : List ℕ → Outcome ℕ
-offsetRead rest =
-    cond (begins false isBlank rest && begins true isHash (dropWhile isBlank (dropWhile isDigit (dropWhile isBlank rest))))
-    (in31Bits (countRead (takeWhile isDigit (dropWhile isBlank rest)))) (refused 12)
+offsetRead rest = in31Bits (fieldRead isHash rest)
 
 -- NTP seconds are counted from 1900: 2,524,953,600 of them up to 1980-01-06
 abbrev pub recordAt : ℕ → ℕ → Record
@@ -80,11 +84,9 @@ abbrev pub expiresAt : Outcome ℕ → Line
 expiresAt (answered ntp) = expires ntp
 expiresAt (refused k) = malformed
 
--- the rest of a line after `#@`: one or more blanks, the NTP seconds, any blanks, and no comment
+-- the rest of a line after `#@`: the NTP seconds, and no comment
 abbrev pub expiryRead : List ℕ → Line
-expiryRead rest =
-    cond (begins false isBlank rest && eqb (length (dropWhile isBlank (dropWhile isDigit (dropWhile isBlank rest)))) 0)
-    (expiresAt (countRead (takeWhile isDigit (dropWhile isBlank rest)))) malformed
+expiryRead rest = expiresAt (fieldRead (λ b. false) rest)
 
 -- an expiry begins with `#@`, and any other line with `#` is a comment; a line of blanks may be empty; all else is data,
 -- which begins with its first digit

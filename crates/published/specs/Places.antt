@@ -1,9 +1,10 @@
 -- What the parts of the reader find, and where. Only contracts of functions in `inner` cite it.
 use mathlib.Core.Path.{_≡_}
-use mathlib.Core.Bool.{Bool, cond}
+use mathlib.Core.Bool.{Bool, true, cond, _&&_, _||_}
 use mathlib.Core.List.{List}
 use mathlib.Core.Option.{Option, none, some}
 use Prim.Native.Nat.{ℕ, _+_, _<_, _≤_, _^_}
+use lib.Dec.{eqb}
 use lib.ListN.{length, take, drop}
 use lib.IntN.{natAbs}
 use Rattle.refusals.specs.Outcome.{Outcome, answered, refused}
@@ -12,13 +13,11 @@ use Rattle.texts.specs.Ends.{untilEnd, NoEndBetween}
 use Rattle.tables.specs.Answers.{takenIn}
 use Rattle.records.specs.Records.{event}
 use Rattle.records.specs.Seconds.{recordIn}
-use Rattle.published.specs.LeapSecondsList.{Line, passes, holds, expires, malformed, takeWhile, dropWhile, offsetRead, lineRead}
+use Rattle.published.specs.LeapSecondsList.{Line, passes, holds, expires, malformed, takeWhile, dropWhile, begins, isHash}
 use Rattle.published.specs.LeapSecondsList.{Reading, reading}
 use Rattle.published.specs.declared.ListAnswer.{ListAnswer}
 use Rattle.published.specs.declared.inner.NumberRead.{NumberRead}
 use Rattle.published.specs.declared.inner.NumberRead.the-variants as number
-use Rattle.published.specs.declared.inner.OffsetRead.{OffsetRead}
-use Rattle.published.specs.declared.inner.OffsetRead.the-variants as offset
 use Rattle.published.specs.declared.inner.LineRead.{LineRead}
 use Rattle.published.specs.declared.inner.LineRead.the-variants as line
 
@@ -61,14 +60,23 @@ abbrev pub NumberEnds : List ℕ → ℕ → NumberRead → Type 0
 NumberEnds s at (number.Number n i) = Passed isDigit s at i × (n < 2 ^ 64)
 NumberEnds s at number.Malformed = Unit {0}
 
--- an offset, and a place after it in the same line
-abbrev pub offsetFound : OffsetRead → Outcome ℕ
-offsetFound (offset.Offset n used) = answered n
-offsetFound offset.Malformed = refused 12
+-- what may follow a field: the sign of a comment, where there may be one
+abbrev pub opens : Bool → ℕ → Bool
+opens comment b = comment && isHash b
 
-abbrev pub OffsetEnds : List ℕ → OffsetRead → Type 0
-OffsetEnds s (offset.Offset n used) = (NoEndBetween s 0 used) × (n < 2 ^ 31)
-OffsetEnds s offset.Malformed = Unit {0}
+-- and in a text the end of the line
+abbrev pub endsField : Bool → ℕ → Bool
+endsField comment b = opens comment b || eqb b 10
+
+-- a number between blanks, and where the blanks after it end
+abbrev pub FieldEnds : Bool → List ℕ → NumberRead → Type 0
+FieldEnds comment s (number.Number n used) = NoEndBetween s 0 used × (begins true (endsField comment) (drop used s) ≡ true)
+FieldEnds comment s number.Malformed = Unit {0}
+
+-- an offset, and a place after it in the same line
+abbrev pub OffsetEnds : List ℕ → NumberRead → Type 0
+OffsetEnds s (number.Number n used) = NoEndBetween s 0 used × (n < 2 ^ 31)
+OffsetEnds s number.Malformed = Unit {0}
 
 -- what a line is
 abbrev pub lineFound : LineRead → Line

@@ -9,11 +9,10 @@ ghost use lib.Dec.{eqb};
 ghost use lib.IntN.{natAbs};
 ghost use lib.ListN.{length, getD, take, drop};
 ghost use Rattle.words.specs.Decimal.{isDigit, countRead};
-ghost use Rattle.texts.specs.Ends.{untilEnd};
 ghost use Rattle.records.specs.Records.{event};
 ghost use Rattle.records.specs.Seconds.{recordIn};
-ghost use Rattle.published.specs.LeapSecondsList.{isBlank, endsInReturn, offsetRead, recordAt, lineRead};
-ghost use Rattle.published.specs.Places.{firstLine, Passed, digits, ReadTo, numberFound, NumberEnds, offsetFound, OffsetEnds};
+ghost use Rattle.published.specs.LeapSecondsList.{isBlank, endsInReturn, fieldRead, offsetRead, recordAt, lineRead};
+ghost use Rattle.published.specs.Places.{firstLine, Passed, digits, ReadTo, numberFound, NumberEnds, opens, FieldEnds, OffsetEnds};
 ghost use Rattle.published.specs.Places.{lineFound, LineEnds, in64Bits};
 use counts::units::LARGEST_COUNT;
 use records::inner::LeapRecord;
@@ -34,15 +33,9 @@ pub const NTP_SECONDS_TO_1980: u64 = 2_524_953_600;
 
 const LARGEST_OFFSET: u64 = i32::MAX as u64;
 
-// A number and the place after it.
+// A number and a place after it.
 pub enum NumberRead {
     Number(u64, usize),
-    Malformed,
-}
-
-// An offset and the place where the blanks after it end.
-pub enum OffsetRead {
-    Offset(u64, usize),
     Malformed,
 }
 
@@ -147,34 +140,46 @@ fn number_to(value: u64, at: usize, i: usize) -> NumberRead
     }
 }
 
-// The offset in what follows the NTP seconds of a line: one or more blanks, the offset, any blanks, and then the end of
-// the line or a comment.
-fn read_offset(rest: &[u8]) -> OffsetRead
-    ensures is { λ r. ⌜ offsetFound r ≡ offsetRead (firstLine (now (rest .entry))) ⌝ }
-    ensures ends { λ r. ⌜ OffsetEnds (now (rest .entry)) r ⌝ }
+// The number at the start of a part of a line, between blanks, one or more of them before it, and the place where the
+// blanks after it end. There the line ends, or a comment begins, where there may be one.
+fn read_field(rest: &[u8], comment: bool) -> NumberRead
+    ensures is { λ r. ⌜ numberFound r ≡ in64Bits (fieldRead (opens comment) (firstLine (now (rest .entry)))) ⌝ }
+    ensures ends { λ r. ⌜ FieldEnds comment (now (rest .entry)) r ⌝ }
 {
     if rest.len() == 0 {
-        return OffsetRead::Malformed;
+        return NumberRead::Malformed;
     }
     if !is_blank(rest[0]) {
-        return OffsetRead::Malformed;
+        return NumberRead::Malformed;
     }
     let start = skip_blanks(rest, 0);
-    let NumberRead::Number(offset, after) = read_number(rest, start) else {
-        return OffsetRead::Malformed;
+    let NumberRead::Number(value, after) = read_number(rest, start) else {
+        return NumberRead::Malformed;
     };
-    if LARGEST_OFFSET < offset {
-        return OffsetRead::Malformed;
-    }
     let stop = skip_blanks(rest, after);
     if stop == rest.len() {
-        return OffsetRead::Offset(offset, stop);
+        return NumberRead::Number(value, stop);
     }
     let b = rest[stop];
-    if (b == b'#') | (b == LINE_END) {
-        OffsetRead::Offset(offset, stop)
+    if (comment & (b == b'#')) | (b == LINE_END) {
+        NumberRead::Number(value, stop)
     } else {
-        OffsetRead::Malformed
+        NumberRead::Malformed
+    }
+}
+
+// The offset in what follows the NTP seconds of a line, of 31 bits, and the place where the blanks after it end.
+fn read_offset(rest: &[u8]) -> NumberRead
+    ensures is { λ r. ⌜ numberFound r ≡ offsetRead (firstLine (now (rest .entry))) ⌝ }
+    ensures ends { λ r. ⌜ OffsetEnds (now (rest .entry)) r ⌝ }
+{
+    let NumberRead::Number(offset, stop) = read_field(rest, true) else {
+        return NumberRead::Malformed;
+    };
+    if LARGEST_OFFSET < offset {
+        NumberRead::Malformed
+    } else {
+        NumberRead::Number(offset, stop)
     }
 }
 
@@ -209,7 +214,8 @@ fn is_at_sign(s: &[u8], at: usize) -> bool
     s[at] == b'@'
 }
 
-// A line from `at` on that begins with `#@`: one or more blanks, the NTP seconds, any blanks, and the end of the line.
+// A line from `at` on that begins with `#@`. What follows goes to the reader of a field, and the place where that one
+// stopped is added to the place where it began.
 fn read_expiry(s: &[u8], at: usize) -> LineRead
     requires { ⌜ at + 2 ≤ length (now s) ⌝ }
     requires { ⌜ getD (now s) at 0 ≡ 35 ⌝ }
@@ -218,25 +224,10 @@ fn read_expiry(s: &[u8], at: usize) -> LineRead
     ensures ends { λ r. ⌜ LineEnds (now (s .entry)) at r ⌝ }
 {
     let from = at + 2;
-    if from == s.len() {
-        return LineRead::Malformed;
-    }
-    if !is_blank(s[from]) {
-        return LineRead::Malformed;
-    }
-    let start = skip_blanks(s, from);
-    let NumberRead::Number(ntp, after) = read_number(s, start) else {
+    let NumberRead::Number(ntp, used) = read_field(&s[from..], false) else {
         return LineRead::Malformed;
     };
-    let end = skip_blanks(s, after);
-    if end == s.len() {
-        return LineRead::Expires(ntp, end);
-    }
-    if s[end] == LINE_END {
-        LineRead::Expires(ntp, end)
-    } else {
-        LineRead::Malformed
-    }
+    LineRead::Expires(ntp, from + used)
 }
 
 // A line from `at` on that begins with the sign of a comment, and not with that of an expiry.
@@ -274,8 +265,7 @@ fn read_blanks(s: &[u8], at: usize) -> LineRead
     }
 }
 
-// A line that begins with a digit. What follows the NTP seconds goes to the reader of the offset, and the place
-// where that one stopped is added to the place where it began.
+// A line that begins with a digit. What follows the NTP seconds goes to the reader of the offset, as in an expiry.
 fn read_data(s: &[u8], at: usize) -> LineRead
     requires { ⌜ at < length (now s) ⌝ }
     requires { ⌜ isDigit (getD (now s) at 0) ≡ true ⌝ }
@@ -285,7 +275,7 @@ fn read_data(s: &[u8], at: usize) -> LineRead
     let NumberRead::Number(ntp, after) = read_number(s, at) else {
         return LineRead::Malformed;
     };
-    let OffsetRead::Offset(offset, used) = read_offset(&s[after..]) else {
+    let NumberRead::Number(offset, used) = read_offset(&s[after..]) else {
         return LineRead::Malformed;
     };
     let end = next_end(s, after + used);

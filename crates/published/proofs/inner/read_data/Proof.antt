@@ -6,14 +6,14 @@ use native.Mathlib.Omega.{arith}
 use borrow.Author.Needs.{needs}
 use denote.Ref.{now}
 use lib.ListN.{length, take, drop, length-drop}
-use lib.Seq.{take-all, drop-drop}
-use Rattle.refusals.specs.Outcome.{answered, refused}
+use lib.Seq.{take-all}
+use Rattle.refusals.specs.Outcome.{answered}
 use Rattle.words.specs.Decimal.{isDigit, countRead}
 use Rattle.texts.specs.Ends.{untilEnd, NoEndBetween}
 use Rattle.published.specs.LeapSecondsList.{holds, takeWhile, endsInReturn, offsetRead}
-use Rattle.published.specs.Places.{firstLine, in64Bits, numberFound, NumberEnds, offsetFound, OffsetEnds}
+use Rattle.published.specs.Places.{firstLine, in64Bits, numberFound, NumberEnds, OffsetEnds}
 use Rattle.published.specs.declared.inner.NumberRead.the-variants as number
-use Rattle.published.specs.declared.inner.OffsetRead.the-variants as offset
+use Rattle.published.proofs.Fields.{in-one-line, part-in-line}
 use Rattle.published.proofs.LineKinds.{end-within, line-to, data-not-empty, data-no-number, data-returns, data-no-offset, data-holds}
 use Rattle.published.proofs.inner.read_data as call
 
@@ -68,7 +68,7 @@ returns-2 c =
     let r = c .before .before in
     let n = r .before .before .before in
     let st = start n in
-    let none = rw (is-rest n) at (sym (ap offsetFound (c .enum-told2 .given .1)) ∙ r .read-offset .ensures .0) in
+    let none = rw (is-rest n) at (sym (ap numberFound (c .enum-told2 .given .1)) ∙ r .read-offset .ensures .0) in
     (data-no-offset (s n) (at n) (st .pre .0) (st .pre .1) (ntp n) (place n) (ntp-is n) (ntp-ends n .0) none, tt)
 
 module _ (c : call.Tie.After-offset) where
@@ -82,9 +82,9 @@ module _ (c : call.Tie.After-offset) where
   used = c .offset .given .0 .1 .0
 
   offset-is : answered n ≡ offsetRead (firstLine (rest from))
-  offset-is = rw (is-rest from) at (sym (ap offsetFound (c .offset .given .1)) ∙ c .before .before .read-offset .ensures .0)
+  offset-is = rw (is-rest from) at (sym (ap numberFound (c .offset .given .1)) ∙ c .before .before .read-offset .ensures .0)
 
-  offset-ends : OffsetEnds (rest from) (offset.Offset n used)
+  offset-ends : OffsetEnds (rest from) (number.Number n used)
   offset-ends =
       rw (is-rest from) at (subst (OffsetEnds (take (length (s from) - place from) (rest from))) (c .offset .given .1)
       (c .before .before .read-offset .ensures .1))
@@ -92,10 +92,8 @@ module _ (c : call.Tie.After-offset) where
   stops : NoEndBetween (s from) (at from) (place from + used)
   stops =
       let number = ntp-ends from .0 .1 in
-      let same = ap untilEnd (drop-drop used (place from) (s from)) in (
-        omega (arith, number .0, offset-ends .0 .0, same),
-        omega (arith, number .1, offset-ends .0 .1, length-drop (place from) (s from)),
-      )
+      in-one-line (s from) (at from) (place from) (place from + used) number
+      (part-in-line (s from) (place from) used (number .1) (offset-ends .0))
 
 add-next-end : call.Tie.Need-add-next-end
 add-next-end c = let within = stops (c .before) .1 in search needs
