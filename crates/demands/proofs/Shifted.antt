@@ -7,7 +7,7 @@ use Prim.Native.Nat.{ℕ, _+_, _^_, _≤_, _<_}
 use native.Mathlib.Omega.{arith}
 use native.Mathlib.Decide.{decLe}
 use borrow.Author.Tests.{le-leb, lt-leb, eqb-true, eq-eqb}
-use lib.Dec.{leb, eqb}
+use lib.Dec.{leb}
 use Rattle.refusals.specs.Outcome.{Outcome, answered, refused, then}
 use Rattle.refusals.proofs.Given.{one-answer, no-refusal}
 use Rattle.refusals.proofs.Steps.{goes-on, stops}

@@ -12,7 +12,7 @@ use Rattle.counts.specs.Units.{second}
 use Rattle.scales.specs.Scales.{taiMinusGps}
 use Rattle.tables.specs.Entries.{Entry, neighbours, lookup, lastUpTo}
 use Rattle.tables.specs.Slots.{paired, entriesOf, ofValid}
-use Rattle.tables.specs.Expiry.{staleAt, dated, withExpiry}
+use Rattle.tables.specs.Expiry.{staleAt, dated}
 use Rattle.tables.specs.declared.LeapTable.{LeapTable}
 use Rattle.tables.proofs.Checked.{good}
 use Rattle.tables.proofs.Stale.{answer-kept, said-of-answer, answer-dated, never, stays-stale}
@@ -20,7 +20,7 @@ use Rattle.images.specs.Image.{sized, tableIn, byImage}
 use Rattle.conversions.specs.Conversions.{E, gpsToUtc, lastReading, utcToGps, secondReading, firstReading}
 use Rattle.conversions.proofs.SinceEpoch.{since}
 use Rattle.demands.specs.OfCalls.{Regular}
-use Rattle.demands.specs.Stale.{byGps, byUtc, Stale}
+use Rattle.demands.specs.Stale.{byUtc, Stale}
 use Rattle.demands.proofs.Demand3.{regular-valid}
 use Rattle.demands.proofs.LeapSeconds.{LeapSeconds, leaps, counted}
 use Rattle.demands.proofs.OnNaturals.{a, b, before-E, from-E}

@@ -1,20 +1,18 @@
 -- UTC to a scale that is behind GPS, by the table in an image: what UTC to GPS found, and what is made of it.
 use mathlib.Core.Path.{_≡_, refl, sym, ap, _∙_}
-use mathlib.Core.Bool.{Bool, true, false, cond}
+use mathlib.Core.Bool.{Bool, false, cond}
 use mathlib.Core.List.{List}
 use Prim.Native.Nat.{ℕ, _+_, _≤_, _<_}
 use Rattle.refusals.specs.Outcome.{Outcome, answered, refused, valueIn, then}
 use Rattle.counts.specs.Exact.{down}
 use Rattle.counts.specs.Units.{second}
 use Rattle.scales.specs.Scales.{taiMinusGps}
-use Rattle.tables.specs.Entries.{Entry}
-use Rattle.tables.specs.Slots.{entriesOf}
-use Rattle.tables.specs.Expiry.{staleAt, dated}
+use Rattle.tables.specs.Expiry.{dated}
 use Rattle.conversions.specs.Conversions.{lastReading, utcToGps}
 use Rattle.conversions.specs.Shifted.{laterOf, utcToShifted, shiftedReading}
 use Rattle.conversions.proofs.Later.{there-valid, from-epoch-on, before-epoch, refused-too, reads-first, reads-later}
 use Rattle.conversions.proofs.Dated.{answer-is, stale-is}
-use Rattle.images.specs.Image.{tableIn, datedByImage}
+use Rattle.images.specs.Image.{datedByImage}
 use Rattle.images.proofs.Held.{Held, holds, held}
 use Rattle.images.proofs.Dated.{es, staleIn, in-one}
 

@@ -14,12 +14,12 @@ use Rattle.refusals.proofs.Tells.{number-not-zero}
 use Rattle.texts.specs.Lines.{linesOf}
 use Rattle.tables.specs.Answers.{takenIn}
 use Rattle.tables.specs.Entries.{valid}
-use Rattle.tables.specs.Slots.{paired, entriesOf, tableOf, validTable}
+use Rattle.tables.specs.Slots.{paired, entriesOf, validTable}
 use Rattle.tables.specs.declared.LeapTable.{LeapTable}
 use Rattle.records.specs.Records.{tableFrom}
 use Rattle.records.proofs.KeptValid.{made-valid}
 use Rattle.published.specs.LeapSecondsList.{firstMalformed, recordsIn, firstExpiry, lastOffset, expirySecond}
-use Rattle.published.specs.LeapSecondsList.{Reading, badList, ofLines, listRead}
+use Rattle.published.specs.LeapSecondsList.{Reading, listRead}
 use Rattle.published.specs.Places.{readingIn}
 use Rattle.published.specs.declared.ListAnswer.{ListAnswer}
 use Rattle.lines.specs.OutcomeLine.{PutsWithRoom}

@@ -1,15 +1,15 @@
 -- A number at the start of a text: what the digits from a place on say, at a turn of its reader.
-use mathlib.Core.Path.{_≡_, refl, sym, ap, _∙_}
-use mathlib.Core.Bool.{Bool, true, false, cond, _&&_, and-false}
+use mathlib.Core.Path.{_≡_, refl, ap, _∙_}
+use mathlib.Core.Bool.{Bool, true, false, cond, and-false}
 use mathlib.Core.List.{List, [], _∷_}
 use Prim.Native.Nat.{ℕ, suc, _+_, _-_, _*_, _^_, _≤_, _<_}
 use native.Mathlib.Nat.{zero-add}
 use native.Mathlib.Decide.{decLe}
 use native.Mathlib.Omega.{arith}
-use borrow.Author.Tests.{leb-true, lt-leb, lt-ltb, le-ltb, eq-eqb, ne-eqb}
-use lib.Dec.{leb, ltb, eqb}
+use borrow.Author.Tests.{leb-true, lt-leb, le-ltb, eq-eqb, ne-eqb}
+use lib.Dec.{leb, eqb}
 use lib.ListN.{length, getD, drop}
-use Rattle.refusals.specs.Outcome.{answered, refused}
+use Rattle.refusals.specs.Outcome.{refused}
 use Rattle.words.specs.Decimal.{isDigit, allDigits, valueFrom, valueOf, countRead}
 use Rattle.words.proofs.Reading.{grows, is-count}
 use Rattle.words.proofs.WayBack.{first-half}

@@ -1,14 +1,12 @@
 -- The bytes that pass a test, one by one from a place on.
-use mathlib.Core.Path.{_≡_, refl, sym, _∙_}
+use mathlib.Core.Path.{_≡_, sym, _∙_}
 use mathlib.Core.Bool.{Bool, true, false, true≢false}
 use mathlib.Core.List.{List, [], _∷_}
 use Prim.Native.Nat.{ℕ, _+_, _≤_, _<_}
 use native.Mathlib.Numerals.{add-one}
 use native.Mathlib.Omega.{arith}
-use lib.Dec.{eqb}
 use lib.ListN.{length, getD, drop, drop-of-length-le}
 use lib.Seq.{drop-cons}
-use Rattle.texts.specs.Ends.{untilEnd, NoEndBetween}
 use Rattle.texts.proofs.LineEnds.{passed}
 use Rattle.published.specs.LeapSecondsList.{takeWhile, dropWhile}
 use Rattle.published.specs.Places.{Passed, Passing}

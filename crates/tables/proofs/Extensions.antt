@@ -14,7 +14,7 @@ use lib.IntN.{pos}
 use Rattle.refusals.proofs.Tells.{number-not-zero}
 use Rattle.refusals.specs.declared.Refusal.{Refusal}
 use Rattle.tables.specs.Answers.{takenIn}
-use Rattle.tables.specs.Entries.{Entry, threshold, offset, neighbours, follows, valid, lastOr, joinRefusal}
+use Rattle.tables.specs.Entries.{Entry, threshold, offset, neighbours, valid, lastOr, joinRefusal}
 use Rattle.tables.specs.Slots.{entriesOf, validTable, tableOf, joinedTo, extensionRefusal, extended}
 use Rattle.tables.specs.declared.LeapEntry.{LeapEntry}
 use Rattle.tables.specs.declared.LeapTable.{LeapTable}

@@ -1,5 +1,5 @@
 -- `inner::shifted_by_later`: by the table in the image, which is copied.
-use mathlib.Core.Path.{_≡_, ap, _∙_}
+use mathlib.Core.Path.{ap, _∙_}
 use mathlib.Core.Bool.{Bool}
 use Prim.Native.Nat.{ℕ, _+_}
 use Rattle.refusals.specs.Outcome.{Outcome, then}

@@ -1,5 +1,5 @@
 -- `table::expiry` answers nothing where the expiry is the largest count.
-use mathlib.Core.Path.{_≡_, ap, sym, refl, _∙_}
+use mathlib.Core.Path.{_≡_, sym, refl, _∙_}
 use borrow.Author.Needs.{needs}
 use borrow.Author.Tests.{not-true, not-false, ne-eqb}
 use denote.Ref.{now}

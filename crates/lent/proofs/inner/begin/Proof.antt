@@ -1,9 +1,5 @@
 -- `inner::begin` knows of no entry.
-use mathlib.Core.Path.{ap}
 use borrow.Author.Needs.{needs}
-use Rattle.tables.specs.Entries.{entry}
-use Rattle.tables.specs.declared.Lookup.{Lookup}
-use Rattle.lent.specs.Pass.{Seen}
 use Rattle.lent.proofs.inner.begin as call
 
 returns : call.Tie.Need-returns

@@ -1,5 +1,5 @@
 -- `plaitgate_read_leap_list` hands out what `published::read` gives, with the table as an image.
-use mathlib.Core.Path.{_≡_, ap, _∙_}
+use mathlib.Core.Path.{ap, _∙_}
 use mathlib.Core.List.{List}
 use Prim.Native.Nat.{ℕ}
 use borrow.Author.Needs.{needs}

@@ -1,10 +1,9 @@
 -- `read_comment`: the line begins with the sign of a comment, so it passes unless it ends in a return.
-use mathlib.Core.Path.{_≡_, sym, ap, _∙_}
+use mathlib.Core.Path.{sym, ap, _∙_}
 use native.Mathlib.Omega.{arith}
 use borrow.Author.Needs.{needs}
 use denote.Ref.{now}
 use Rattle.published.specs.LeapSecondsList.{endsInReturn}
-use Rattle.published.specs.Places.{firstLine}
 use Rattle.published.proofs.LineKinds.{end-within, line-to, not-empty, comment-passes, comment-returns}
 use Rattle.published.proofs.inner.read_comment as call
 

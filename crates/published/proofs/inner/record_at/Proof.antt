@@ -1,14 +1,14 @@
 -- `record_at`: NTP seconds less those up to 1980, and the offset, in exact integers.
-use mathlib.Core.Path.{_≡_, ap, _∙_}
+use mathlib.Core.Path.{_≡_, _∙_}
 use Prim.Native.Nat.{ℕ, _+_, _-_, _<_, _^_}
 use native.Mathlib.Omega.{arith}
 use borrow.Author.Needs.{needs}
-use lib.IntN.{ℤ, pos, subℕ, _-ℤ_, natAbs}
+use lib.IntN.{pos, subℕ, natAbs}
 use mir.Syntax.{w32}
 use mir.Val.{toZ}
 use mir.Facts.{toZ-pos}
 use Rattle.counts.proofs.Difference.{by-order, same, less}
-use Rattle.records.specs.Records.{event, recordOf}
+use Rattle.records.specs.Records.{event}
 use Rattle.published.specs.LeapSecondsList.{recordAt}
 use Rattle.published.proofs.inner.record_at as call
 

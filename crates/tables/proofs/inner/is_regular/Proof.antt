@@ -1,6 +1,6 @@
 -- `inner::is_regular`: the first slot is tested, then each with the one before it. The bits of an offset that fits tell
 -- whether it is 19.
-use mathlib.Core.Path.{_≡_, sym, ap, _∙_}
+use mathlib.Core.Path.{sym, ap, _∙_}
 use Prim.Native.Nat.{ℕ}
 use lib.IntN.{pos}
 use denote.Ref.{now}

@@ -1,6 +1,6 @@
 -- `inner::shifted::shifted_from_glonass`: the step to UTC, then by the GPS count found, or, before
 -- the epoch, by the later one.
-use mathlib.Core.Path.{_≡_, sym, ap, _∙_}
+use mathlib.Core.Path.{_≡_, ap, _∙_}
 use mathlib.Core.Bool.{true}
 use Prim.Native.Nat.{ℕ}
 use Rattle.refusals.specs.Outcome.{Outcome, then}

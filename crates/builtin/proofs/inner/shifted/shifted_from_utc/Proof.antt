@@ -1,5 +1,5 @@
 -- `inner::shifted::shifted_from_utc`: by the GPS count found, or, before the epoch, by the later one.
-use mathlib.Core.Path.{_≡_, sym, ap, _∙_}
+use mathlib.Core.Path.{ap, _∙_}
 use mathlib.Core.Bool.{true}
 use Rattle.counts.specs.Answers.{countIn}
 use Rattle.conversions.proofs.Later.{from-epoch-on, before-epoch, refused-too}

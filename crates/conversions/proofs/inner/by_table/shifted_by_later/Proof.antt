@@ -1,7 +1,6 @@
 -- `inner::by_table::shifted_by_later`: the later count, and its own TAI reading.
 use mathlib.Core.Path.{ap, _∙_}
-use Prim.Native.Nat.{ℕ}
-use Rattle.refusals.specs.Outcome.{Outcome, valueIn, then}
+use Rattle.refusals.specs.Outcome.{valueIn}
 use Rattle.counts.specs.Exact.{down}
 use Rattle.tables.specs.Slots.{entriesOf}
 use Rattle.tables.specs.Expiry.{staleAt, dated}

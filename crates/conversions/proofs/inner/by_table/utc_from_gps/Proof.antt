@@ -1,8 +1,6 @@
 -- `inner::by_table::utc_from_gps`: one checked lookup, at the TAI reading.
 use mathlib.Core.Path.{ap, _∙_}
-use mathlib.Core.Bool.{Bool}
-use Prim.Native.Nat.{ℕ}
-use Rattle.refusals.specs.Outcome.{Outcome, valueIn}
+use Rattle.refusals.specs.Outcome.{valueIn}
 use Rattle.counts.specs.Answers.{countIn}
 use Rattle.tables.specs.Slots.{entriesOf, validTable}
 use Rattle.tables.specs.Expiry.{staleAt, dated}
