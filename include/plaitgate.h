@@ -540,7 +540,7 @@ uint32_t plaitgate_table_from_builtin(uint8_t *image, size_t image_bytes);
 
 /* Writes the image of the table that has the entries of a list, and no expiry. Refuses with 8 where there are not
    PLAITGATE_IMAGE_BYTES bytes for the image, and leaves them as they were. Else refuses with 8 where the list is no
-   whole number of entries, by 6 where it has none, with 5 where it has more than 64; then for the first entry that
+   whole number of entries, with 6 where it has none, with 5 where it has more than 64; then for the first entry that
    cannot follow the one before it: with 3 where its threshold is not above that one's, with 7 where that one's offset
    is 2147483647, with 4 where its offset is not one more. On these refusals the image is that of the table with no
    entry. */
