@@ -19,7 +19,7 @@ module _ {Lifetimes : Type 0} {Arguments Answer End : Lifetimes → Type 0}
       (κ : Lifetimes) (a : Arguments κ) (r : Answer κ) (e : End κ)
       → Contract κ a r e → number κ r ≢ 0 → left κ r e ≡ due κ a
 
-  -- an extension leaves the table that came: its entries, its length and all 64 slots
+  -- an extension leaves the table that came: its length, all 64 slots and its expiry
   abbrev pub TableKept : ((κ : Lifetimes) → Answer κ → End κ → LeapTable)
       → ((κ : Lifetimes) → Arguments κ → LeapTable) → Type 0
   TableKept left came = RefusalLeaves left came

@@ -69,7 +69,7 @@ pub fn current_tai_minus_utc(entries: &[LeapEntry]) -> OffsetAnswer
     inner::current(inner::pass_over(entries, NO_READING))
 }
 
-// Joins an entry at the end of a lent table. On a refusal the table stays as it is, all 64 slots.
+// Joins an entry at the end of a lent table. On a refusal the table stays as it is, with all 64 slots and its expiry.
 // Refuses 8, 5, 3, 7, 4, as the extension by value.
 pub fn try_extend(table: &mut LeapTable, entry: LeapEntry) -> Taken
     ensures { λ r. ⌜ (takenIn r, now (table .exit)) ≡ extended (now (table .entry)) entry ⌝ }
