@@ -29,7 +29,7 @@ pub struct Dated<T> {
 }
 
 impl<T> Dated<T> {
-    /// Another value, told alike.
+    /// Changes the value with `f`, and keeps whether the table has expired.
     #[inline]
     #[must_use]
     pub fn map<U>(self, f: impl FnOnce(T) -> U) -> Dated<U> {

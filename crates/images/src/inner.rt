@@ -66,7 +66,8 @@ pub fn no_table(why: Refusal) -> TableAnswer
     }
 }
 
-// A table of n slots, without an expiry. Thresholds and offsets have each a place of the first and a stride from one to the next.
+// A table of n slots, without an expiry. The caller says where the first threshold and the first offset are, and how far
+// each is from the next.
 pub fn slots_at(
     bytes: &[u8],
     thresholds_at: usize,
