@@ -5,41 +5,29 @@ mod list;
 mod measure;
 mod port;
 
+use counts::{Order, OF_GPS, OF_UTC, ORDERS, SECOND};
 use gnss_time::{gps_to_utc, utc_to_gps, CivilDateTime, LeapSeconds, RuntimeLeapSeconds, Time, Utc};
 use measure::Bench;
 use std::ops::Range;
 
-const SECOND: u64 = 1_000_000_000;
 /// All counts there are.
 const ALL: Range<u64> = 0..u64::MAX;
-/// GPS counts from 1980 to 2024, so that every entry of the built-in table is met.
-const OF_GPS: Range<u64> = 0..1_400_000_000 * SECOND;
 /// The GPS counts at the epochs of Galileo and BeiDou.
 const GALILEO: u64 = 619_315_200 * SECOND;
 const BEIDOU: u64 = 820_108_814 * SECOND;
-/// UTC counts of the same years.
-const OF_UTC: Range<u64> = 252_892_800 * SECOND..1_652_892_800 * SECOND;
 
 fn main() {
     let bench = Bench::begin();
-    for order in
-        [Order { name: "rising", counts: counts::rising }, Order { name: "shuffled", counts: counts::shuffled }]
-    {
-        civil(&bench, &order);
-        conversions(&bench, &order);
+    bench.begin_compare();
+    for order in &ORDERS {
+        civil(&bench, order);
+        conversions(&bench, order);
     }
-    bench.begin_beside();
-    for order in
-        [Order { name: "rising", counts: counts::rising }, Order { name: "shuffled", counts: counts::shuffled }]
-    {
-        shifted(&bench, &order);
+    bench.begin_beside("GPS", "other");
+    for order in &ORDERS {
+        shifted(&bench, order);
     }
     list::lists(&bench);
-}
-
-struct Order {
-    name: &'static str,
-    counts: fn(&Range<u64>) -> Vec<u64>,
 }
 
 fn civil(bench: &Bench, order: &Order) {

@@ -41,8 +41,12 @@ pub struct Bench;
 impl Bench {
     pub fn begin() -> Bench {
         println!("Nanoseconds for a call, best of {ROUNDS} rounds each, in turns.");
-        println!("{:<18} {:<10} {:>8} {:>8} {:>10}", "", "inputs", "crate", "port", "port/crate");
         Bench
+    }
+
+    /// The heading of what `compare` and `alone` write.
+    pub fn begin_compare(&self) {
+        println!("{:<18} {:<10} {:>8} {:>8} {:>10}", "", "inputs", "crate", "port", "port/crate");
     }
 
     /// Measures both on the same inputs, after seeing that they agree on each. Each side has its own errors.
@@ -91,9 +95,10 @@ impl Bench {
         println!("{name:<25} {order:<10} {first:>8.2} {second:>8.2} {:>10.2}", second / first);
     }
 
-    /// The heading of what `beside` writes.
-    pub fn begin_beside(&self) {
-        println!("{:<25} {:<10} {:>8} {:>8} {:>10}", "The port beside itself", "inputs", "GPS", "other", "other/GPS");
+    /// The heading of what `beside` writes: what the two calls are.
+    pub fn begin_beside(&self, first: &str, second: &str) {
+        let part = format!("{second}/{first}");
+        println!("{:<25} {:<10} {first:>8} {second:>8} {part:>10}", "The port beside itself", "inputs");
     }
 
     /// Measures the port on the bytes of a file, and another pass over the same bytes.
