@@ -647,14 +647,14 @@ uint32_t plaitgate_list_tai_minus_utc_at(const uint8_t *entries, size_t entries_
 
 /* ---- Conversions by a table ---- */
 
-/* The UTC count of a GPS count: by the offset n in force 19 s on, n - 19 s less and 252892800 s more. `stale`: whether
-   the table has expired 19 s on. Refuses with 8 where the image holds no valid table, with 1 where the GPS count and 19
-   s is above 64 bits, with 9 where n is below -2147483629, with 1 where the UTC count is below 0 or above 64 bits, in
-   this order. */
+/* The UTC count of a GPS count: by the offset n in force at the TAI count, which is GPS + 19 s, it is GPS - (n - 19) s
+   + 252892800 s. `stale`: whether the table has expired at that TAI count. Refuses with 8 where the image holds no valid
+   table, with 1 where the TAI count is above 64 bits, with 9 where n is below -2147483629, with 1 where the UTC count is
+   below 0 or above 64 bits, in this order. */
 uint32_t plaitgate_table_gps_to_utc(uint64_t gps, const uint8_t *image, size_t image_bytes, uint64_t *utc,
                                     uint8_t *stale);
 
-/* The GPS count of a UTC count: by an offset n, n - 19 s more and 252892800 s less. To find n, the offset in force is
+/* The GPS count of a UTC count: by an offset n, it is UTC - 252892800 s + (n - 19) s. To find n, the offset in force is
    looked up at a, which is UTC - 252892800 s + 19 s, or 0 where that is no count; then n is the offset in force at b,
    which is UTC - 252892800 s + that offset in seconds, or a where that is no count. `stale`: whether the table has
    expired at b. Refuses with 8 where the image holds no valid table, with 9 where n is below -2147483629, with 1 where
@@ -711,10 +711,10 @@ uint32_t plaitgate_builtin_galileo_to_glonass(uint64_t galileo, uint64_t *glonas
 uint32_t plaitgate_builtin_glonass_to_galileo(uint64_t glonass, uint64_t *galileo);
 
 /* The same four by the table in an image. Each refuses with 8 first where the image holds no valid table. `stale`: as
-   the conversion by way of GPS, or whether the table has expired 19 s after the later GPS count, where that is taken.
-   From UTC and from GLONASS, a table that is not regular gives no more than the first GPS count of a UTC count, and
-   refuses with 1 where that is before the epoch of Galileo. (A table is regular if it begins (0, 19) and each threshold
-   after the first is at least 86400 s above the one before.) */
+   the conversion by way of GPS; where the later GPS count is taken, whether the table has expired at the TAI count of
+   that one. From UTC and from GLONASS, a table that is not regular gives no more than the first GPS count of a UTC
+   count, and refuses with 1 where that is before the epoch of Galileo. (A table is regular if it begins (0, 19) and each
+   threshold after the first is at least 86400 s above the one before.) */
 uint32_t plaitgate_table_galileo_to_utc(uint64_t galileo, const uint8_t *image, size_t image_bytes, uint64_t *utc,
     uint8_t *stale);
 uint32_t plaitgate_table_utc_to_galileo(uint64_t utc, const uint8_t *image, size_t image_bytes, uint64_t *galileo,
@@ -751,10 +751,10 @@ uint32_t plaitgate_builtin_beidou_to_glonass(uint64_t beidou, uint64_t *glonass)
 uint32_t plaitgate_builtin_glonass_to_beidou(uint64_t glonass, uint64_t *beidou);
 
 /* The same four by the table in an image. Each refuses with 8 first where the image holds no valid table. `stale`: as
-   the conversion by way of GPS, or whether the table has expired 19 s after the later GPS count, where that is taken.
-   From UTC and from GLONASS, a table that is not regular gives no more than the first GPS count of a UTC count, and
-   refuses with 1 where that is before the epoch of BeiDou. (A table is regular if it begins (0, 19) and each threshold
-   after the first is at least 86400 s above the one before.) */
+   the conversion by way of GPS; where the later GPS count is taken, whether the table has expired at the TAI count of
+   that one. From UTC and from GLONASS, a table that is not regular gives no more than the first GPS count of a UTC
+   count, and refuses with 1 where that is before the epoch of BeiDou. (A table is regular if it begins (0, 19) and each
+   threshold after the first is at least 86400 s above the one before.) */
 uint32_t plaitgate_table_beidou_to_utc(uint64_t beidou, const uint8_t *image, size_t image_bytes, uint64_t *utc,
     uint8_t *stale);
 uint32_t plaitgate_table_utc_to_beidou(uint64_t utc, const uint8_t *image, size_t image_bytes, uint64_t *beidou,
