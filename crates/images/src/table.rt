@@ -14,8 +14,8 @@ ghost use Rattle.tables.specs.Answers.{datedOffsetIn};
 ghost use Rattle.tables.specs.Expiry.{expiryIn};
 ghost use Rattle.scales.specs.Scales.{taiMinusGps};
 ghost use Rattle.conversions.specs.Answers.{datedIn};
-ghost use Rattle.conversions.specs.Conversions.{gpsToUtc, lastReading, utcToGps, glonassEpoch};
-ghost use Rattle.conversions.specs.Shifted.{shiftedToUtc, utcToShifted, shiftedReading, glonassToShifted};
+ghost use Rattle.conversions.specs.Conversions.{gpsToUtc, lastReading, utcToGps};
+ghost use Rattle.conversions.specs.Shifted.{shiftedToUtc, utcToShifted, shiftedReading};
 ghost use Rattle.images.specs.Image.{byImage, datedByImage, imageRead, imageWritten, builtFrom};
 ghost use Rattle.images.specs.Image.{tableIn, imageExtended, imageExpiring};
 use crate::inner;
@@ -269,27 +269,6 @@ pub fn shifted_from_utc(utc: CountAnswer, image: &[u8], behind: u64) -> DatedCou
         (λ es. then (countIn utc) (utcToShifted behind es)) ⌝ }
 {
     let found = gps_from_utc(utc, image);
-    let first = found.answer;
-    match first {
-        CountAnswer::Count(gps) => {
-            if gps < behind {
-                inner::shifted_by_later(image, gps, behind)
-            } else {
-                date(sums::minus(gps, behind), found.stale)
-            }
-        }
-        CountAnswer::Refused(why) => date(CountAnswer::Refused(why), false),
-    }
-}
-
-// The same from GLONASS, by way of UTC. It is written out: what is rare, and taken by two functions, the compiler leaves
-// out of line.
-pub fn shifted_from_glonass(glonass: CountAnswer, image: &[u8], behind: u64) -> DatedCount
-    ensures { λ r. ⌜ datedIn r ≡
-        datedByImage (now (image .entry)) (λ es. shiftedReading behind es (valueIn 0 (countIn glonass) + glonassEpoch))
-        (λ es. then (countIn glonass) (glonassToShifted behind es)) ⌝ }
-{
-    let found = gps_from_utc(steps::utc_from_glonass(glonass), image);
     let first = found.answer;
     match first {
         CountAnswer::Count(gps) => {

@@ -131,7 +131,7 @@ pub extern "C" fn plaitgate_table_glonass_to_beidou(
         (λ es. glonassToShifted gpsMinusBeidou es glonass))) r
         (datedAs (now (beidou .exit)) (now (stale .exit))) ⌝ }
 {
-    let count = CountAnswer::Count(glonass);
-    let answer = table::shifted_from_glonass(count, image, Beidou::BEHIND_GPS_NS);
+    let utc = steps::utc_from_glonass(CountAnswer::Count(glonass));
+    let answer = table::shifted_from_utc(utc, image, Beidou::BEHIND_GPS_NS);
     give::dated_count(answer, beidou, stale)
 }

@@ -131,7 +131,7 @@ pub extern "C" fn plaitgate_table_glonass_to_galileo(
         (λ es. glonassToShifted gpsMinusGalileo es glonass))) r
         (datedAs (now (galileo .exit)) (now (stale .exit))) ⌝ }
 {
-    let count = CountAnswer::Count(glonass);
-    let answer = table::shifted_from_glonass(count, image, Galileo::BEHIND_GPS_NS);
+    let utc = steps::utc_from_glonass(CountAnswer::Count(glonass));
+    let answer = table::shifted_from_utc(utc, image, Galileo::BEHIND_GPS_NS);
     give::dated_count(answer, galileo, stale)
 }

@@ -65,6 +65,3 @@ utc-from-shifted κ a x y e f p q = viewed dated-tells x y p q
 
 pub shifted-from-utc : OneAnswer table.shifted_from_utc.Reads.Post
 shifted-from-utc κ a x y e f p q = viewed dated-tells x y p q
-
-pub shifted-from-glonass : OneAnswer table.shifted_from_glonass.Reads.Post
-shifted-from-glonass κ a x y e f p q = viewed dated-tells x y p q
