@@ -14,12 +14,13 @@ const GALILEO: u64 = 619_315_200 * SECOND;
 const GLONASS: u64 = 757_371_600 * SECOND;
 const BEIDOU: u64 = 1_073_001_600 * SECOND;
 /// Counts up to 2024: Galileo and GLONASS from their epochs on, GPS from that of GLONASS on, UTC and GLONASS from that of
-/// BeiDou on.
+/// BeiDou on; and Unix seconds from the epoch of GPS on.
 const OF_GALILEO: Range<u64> = 0..OF_GPS.end - GALILEO;
 const OF_GLONASS: Range<u64> = 0..OF_UTC.end - GLONASS;
 const OF_LATER_GPS: Range<u64> = 504_478_810 * SECOND..OF_GPS.end;
 const OF_LATER_UTC: Range<u64> = BEIDOU..OF_UTC.end;
 const OF_LATER_GLONASS: Range<u64> = BEIDOU - GLONASS..OF_UTC.end - GLONASS;
+const OF_UNIX: Range<u64> = 315_964_800..1_715_964_800;
 /// The expiry of the table, in 2014: amid the counts of each range.
 const EXPIRY: u64 = 1_100_000_000 * SECOND;
 
@@ -34,7 +35,8 @@ fn answer(refusal: u32, result: u64) -> Answer {
 }
 
 /// Measures a conversion by an image, of both versions. A version that does not tell whether the table is stale is
-/// handed the place for that too: a C function does not look at what it has no parameter for.
+/// handed the place for that too: a C function does not look at what it has no parameter for. Unix seconds are signed,
+/// and those that are measured are not negative.
 macro_rules! by_image {
     ($bench:ident, $order:ident, $images:ident, $title:literal, $name:literal, $counts:expr) => {
         $bench.beside(
@@ -152,8 +154,11 @@ fn main() {
         by_image!(bench, order, images, "GPS to GLONASS", "gps_to_glonass", OF_LATER_GPS);
         by_image!(bench, order, images, "GLONASS to GPS", "glonass_to_gps", OF_GLONASS);
         by_image!(bench, order, images, "Galileo to UTC", "galileo_to_utc", OF_GALILEO);
+        by_image!(bench, order, images, "Galileo to GLONASS", "galileo_to_glonass", OF_GALILEO);
         by_image!(bench, order, images, "UTC to Galileo", "utc_to_galileo", OF_LATER_UTC);
         by_image!(bench, order, images, "GLONASS to BeiDou", "glonass_to_beidou", OF_LATER_GLONASS);
+        by_image!(bench, order, images, "Unix to GPS", "gps_from_unix_seconds", OF_UNIX);
+        by_image!(bench, order, images, "GPS to Unix", "gps_as_unix_seconds", OF_GPS);
         bench.beside(
             "lookup, image",
             order.name,
