@@ -6,6 +6,8 @@ const HOW_MANY: u64 = 1_000_000;
 pub const SECOND: u64 = 1_000_000_000;
 /// GPS counts from 1980 to 2024, so that every entry of the built-in table is met.
 pub const OF_GPS: Range<u64> = 0..1_400_000_000 * SECOND;
+/// The GPS count at the epoch of Galileo.
+pub const GALILEO: u64 = 619_315_200 * SECOND;
 /// UTC counts of the same years.
 pub const OF_UTC: Range<u64> = 252_892_800 * SECOND..1_652_892_800 * SECOND;
 

@@ -5,15 +5,14 @@ mod list;
 mod measure;
 mod port;
 
-use counts::{Order, OF_GPS, OF_UTC, ORDERS, SECOND};
+use counts::{Order, GALILEO, OF_GPS, OF_UTC, ORDERS, SECOND};
 use gnss_time::{gps_to_utc, utc_to_gps, CivilDateTime, LeapSeconds, RuntimeLeapSeconds, Time, Utc};
 use measure::Bench;
 use std::ops::Range;
 
 /// All counts there are.
 const ALL: Range<u64> = 0..u64::MAX;
-/// The GPS counts at the epochs of Galileo and BeiDou.
-const GALILEO: u64 = 619_315_200 * SECOND;
+/// The GPS count at the epoch of BeiDou.
 const BEIDOU: u64 = 820_108_814 * SECOND;
 
 fn main() {
@@ -23,7 +22,7 @@ fn main() {
         civil(&bench, order);
         conversions(&bench, order);
     }
-    bench.begin_beside("GPS", "other");
+    bench.begin_against("GPS", "other");
     for order in &ORDERS {
         shifted(&bench, order);
     }
@@ -65,7 +64,7 @@ fn conversions(bench: &Bench, order: &Order) {
     bench.alone("image, checked", order.name, &gps, |_| image.len());
 }
 
-/// Galileo and BeiDou beside GPS, from their epochs to 2024: the same instants, by their own counts.
+/// Galileo and BeiDou compared with GPS, from their epochs to 2024: the same instants, by their own counts.
 fn shifted(bench: &Bench, order: &Order) {
     use port::{beidou_to_utc, galileo_to_utc, gps_to_utc, utc_to_beidou, utc_to_galileo, utc_to_gps, Image};
     let image = Image::of_builtin();
@@ -75,11 +74,11 @@ fn shifted(bench: &Bench, order: &Order) {
     };
     let same = |utc: u64, other: u64| utc == other;
     let (galileo, beidou) = (pairs(GALILEO), pairs(BEIDOU));
-    bench.beside("Galileo to UTC", order.name, &galileo, gps_to_utc, galileo_to_utc, same);
-    bench.beside("BeiDou to UTC", order.name, &beidou, gps_to_utc, beidou_to_utc, same);
+    bench.against("Galileo to UTC", order.name, &galileo, gps_to_utc, galileo_to_utc, same);
+    bench.against("BeiDou to UTC", order.name, &beidou, gps_to_utc, beidou_to_utc, same);
     let by_gps = |n| image.by_gps_to_utc(n);
-    bench.beside("Galileo to UTC, image", order.name, &galileo, by_gps, |n| image.by_galileo_to_utc(n), same);
-    bench.beside("BeiDou to UTC, image", order.name, &beidou, by_gps, |n| image.by_beidou_to_utc(n), same);
+    bench.against("Galileo to UTC, image", order.name, &galileo, by_gps, |n| image.by_galileo_to_utc(n), same);
+    bench.against("BeiDou to UTC, image", order.name, &beidou, by_gps, |n| image.by_beidou_to_utc(n), same);
     // from UTC: counts that differ by the difference; from a second past the epoch on, so that no later count is due
     let pairs = |behind: u64| -> Vec<(u64, u64)> {
         let first = gps_to_utc(behind).expect("the epoch has a UTC count") + SECOND;
@@ -87,9 +86,9 @@ fn shifted(bench: &Bench, order: &Order) {
     };
     let (of_galileo, of_beidou) = (|gps: u64, n: u64| gps - n == GALILEO, |gps: u64, n: u64| gps - n == BEIDOU);
     let (galileo, beidou) = (pairs(GALILEO), pairs(BEIDOU));
-    bench.beside("UTC to Galileo", order.name, &galileo, utc_to_gps, utc_to_galileo, of_galileo);
-    bench.beside("UTC to BeiDou", order.name, &beidou, utc_to_gps, utc_to_beidou, of_beidou);
+    bench.against("UTC to Galileo", order.name, &galileo, utc_to_gps, utc_to_galileo, of_galileo);
+    bench.against("UTC to BeiDou", order.name, &beidou, utc_to_gps, utc_to_beidou, of_beidou);
     let by_gps = |n| image.by_utc_to_gps(n);
-    bench.beside("UTC to Galileo, image", order.name, &galileo, by_gps, |n| image.by_utc_to_galileo(n), of_galileo);
-    bench.beside("UTC to BeiDou, image", order.name, &beidou, by_gps, |n| image.by_utc_to_beidou(n), of_beidou);
+    bench.against("UTC to Galileo, image", order.name, &galileo, by_gps, |n| image.by_utc_to_galileo(n), of_galileo);
+    bench.against("UTC to BeiDou, image", order.name, &beidou, by_gps, |n| image.by_utc_to_beidou(n), of_beidou);
 }

@@ -11,6 +11,17 @@ const PART: usize = 10_000;
 /// How often a file is passed over in one part.
 const PASSES: usize = 200;
 
+/// The answer, or the number of the refusal.
+pub type Answer<A> = Result<A, u32>;
+
+#[inline(always)]
+pub fn answer<A>(refusal: u32, answer: A) -> Answer<A> {
+    match refusal {
+        0 => Ok(answer),
+        refusal => Err(refusal),
+    }
+}
+
 /// An answer that a host goes on with.
 pub trait Used {
     /// A number that every part of the answer goes into.
@@ -70,9 +81,9 @@ impl Bench {
         println!("{name:<18} {order:<10} {original:>8.2} {port:>8.2} {:>10.2}", port / original);
     }
 
-    /// Measures two calls of the port, one beside the other, after seeing that `same` holds of their answers. The inputs
+    /// Measures one call of the port against another, after seeing that `same` holds of their answers. The inputs
     /// are pairs, one for each of the two; both are timed on reading one half of each pair.
-    pub fn beside<First: Used, Second: Used, Refusal>(
+    pub fn against<First: Used, Second: Used, Refusal>(
         &self,
         name: &str,
         order: &str,
@@ -95,10 +106,10 @@ impl Bench {
         println!("{name:<25} {order:<10} {first:>8.2} {second:>8.2} {:>10.2}", second / first);
     }
 
-    /// The heading of what `beside` writes: what the two calls are.
-    pub fn begin_beside(&self, first: &str, second: &str) {
+    /// The heading of what `against` writes: what the two calls are.
+    pub fn begin_against(&self, first: &str, second: &str) {
         let part = format!("{second}/{first}");
-        println!("{:<25} {:<10} {first:>8} {second:>8} {part:>10}", "The port beside itself", "inputs");
+        println!("{:<25} {:<10} {first:>8} {second:>8} {part:>10}", "Two calls of the port", "inputs");
     }
 
     /// Measures the port on the bytes of a file, and another pass over the same bytes.

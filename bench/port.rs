@@ -1,5 +1,6 @@
 //! The port's calls as a Rust host makes them: structs in and out, and an error for a refusal.
 
+use crate::measure::{answer, Answer};
 use gnss_time::{CivilDateTime, Gps, Time, Utc};
 
 extern "C" {
@@ -89,17 +90,6 @@ by_tables! {
     utc_to_galileo, by_utc_to_galileo: "plaitgate_builtin_utc_to_galileo", "plaitgate_table_utc_to_galileo";
     beidou_to_utc, by_beidou_to_utc: "plaitgate_builtin_beidou_to_utc", "plaitgate_table_beidou_to_utc";
     utc_to_beidou, by_utc_to_beidou: "plaitgate_builtin_utc_to_beidou", "plaitgate_table_utc_to_beidou";
-}
-
-/// The answer, or the number of the refusal.
-type Answer<A> = Result<A, u32>;
-
-#[inline(always)]
-fn answer<A>(refusal: u32, answer: A) -> Answer<A> {
-    match refusal {
-        0 => Ok(answer),
-        refusal => Err(refusal),
-    }
 }
 
 #[inline(always)]

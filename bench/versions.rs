@@ -1,45 +1,34 @@
-//! The port of this tree and the port of an earlier commit, in one process and on the same inputs. `bench/run --beside
-//! COMMIT` builds it and runs it. The symbols of the earlier port begin with `before_`.
+//! Compares the port of this tree with the port of an earlier commit, in one process and on the same inputs.
+//! `bench/run --against COMMIT` builds it and runs it. The symbols of the earlier port begin with `before_`.
 
 mod counts;
 #[allow(dead_code)] // what compares the port with the crate
 mod measure;
 
-use counts::{Order, OF_GPS, OF_UTC, ORDERS, SECOND};
-use measure::Bench;
+use counts::{Order, GALILEO, OF_GPS, OF_UTC, ORDERS, SECOND};
+use measure::{answer, Bench};
 use std::ops::Range;
 
-/// The GPS count at the epoch of Galileo, and the UTC counts at those of GLONASS and BeiDou.
-const GALILEO: u64 = 619_315_200 * SECOND;
-const GLONASS: u64 = 757_371_600 * SECOND;
-const BEIDOU: u64 = 1_073_001_600 * SECOND;
+/// The UTC counts at the epochs of GLONASS and BeiDou.
+const UTC_AT_GLONASS: u64 = 757_371_600 * SECOND;
+const UTC_AT_BEIDOU: u64 = 1_073_001_600 * SECOND;
 /// Counts up to 2024: Galileo and GLONASS from their epochs on, GPS from that of GLONASS on, UTC and GLONASS from that of
 /// BeiDou on; and Unix seconds from the epoch of GPS on.
 const OF_GALILEO: Range<u64> = 0..OF_GPS.end - GALILEO;
-const OF_GLONASS: Range<u64> = 0..OF_UTC.end - GLONASS;
+const OF_GLONASS: Range<u64> = 0..OF_UTC.end - UTC_AT_GLONASS;
 const OF_LATER_GPS: Range<u64> = 504_478_810 * SECOND..OF_GPS.end;
-const OF_LATER_UTC: Range<u64> = BEIDOU..OF_UTC.end;
-const OF_LATER_GLONASS: Range<u64> = BEIDOU - GLONASS..OF_UTC.end - GLONASS;
+const OF_LATER_UTC: Range<u64> = UTC_AT_BEIDOU..OF_UTC.end;
+const OF_LATER_GLONASS: Range<u64> = UTC_AT_BEIDOU - UTC_AT_GLONASS..OF_UTC.end - UTC_AT_GLONASS;
 const OF_UNIX: Range<u64> = 315_964_800..1_715_964_800;
-/// The expiry of the table, in 2014: amid the counts of each range.
+/// The expiry of the table, in 2014, so that every range has counts before it and after it.
 const EXPIRY: u64 = 1_100_000_000 * SECOND;
 
-/// The answer, or the number of the refusal.
-type Answer = Result<u64, u32>;
-
-fn answer(refusal: u32, result: u64) -> Answer {
-    match refusal {
-        0 => Ok(result),
-        refusal => Err(refusal),
-    }
-}
-
-/// Measures a conversion by an image, of both versions. A version that does not tell whether the table is stale is
-/// handed the place for that too: a C function does not look at what it has no parameter for. Unix seconds are signed,
-/// and those that are measured are not negative.
+/// Measures a conversion by an image, of both versions. A version that cannot tell whether the table is stale gets a place
+/// for that all the same: a C function ignores an argument that it has no parameter for. Unix seconds are signed; the ones
+/// measured here are not negative.
 macro_rules! by_image {
     ($bench:ident, $order:ident, $images:ident, $title:literal, $name:literal, $counts:expr) => {
-        $bench.beside(
+        $bench.against(
             concat!($title, ", image"),
             $order.name,
             &pairs($order, $counts),
@@ -55,7 +44,7 @@ macro_rules! by_image {
         }
         |count| {
             let (image, mut result, mut stale): (&[u8], _, _) = ($image, 0, 0);
-            // SAFETY: the image is so long, and each result has a place
+            // SAFETY: the image has that many bytes, and each result has a place
             let refusal = unsafe { exported(count, image.as_ptr(), image.len(), &mut result, &mut stale) };
             answer(refusal, result)
         }
@@ -71,7 +60,7 @@ macro_rules! lookup {
         }
         |tai| {
             let (image, mut offset, mut stale): (&[u8], _, _) = ($image, 0, 0);
-            // SAFETY: the image is so long, and each result has a place
+            // SAFETY: the image has that many bytes, and each result has a place
             let refusal = unsafe { exported(image.as_ptr(), image.len(), tai, &mut offset, &mut stale) };
             answer(refusal, offset as u64)
         }
@@ -81,7 +70,7 @@ macro_rules! lookup {
 /// Measures a conversion by the built-in table, of both versions.
 macro_rules! by_builtin {
     ($bench:ident, $order:ident, $title:literal, $name:literal, $counts:expr) => {
-        $bench.beside(
+        $bench.against(
             concat!($title, ", built-in"),
             $order.name,
             &pairs($order, $counts),
@@ -117,7 +106,7 @@ impl Images {
             fn plaitgate_table_from_builtin(image: *mut u8, bytes: usize) -> u32;
         }
         let (mut before, mut now) = (vec![0; bytes_before], vec![0; bytes_now]);
-        // SAFETY: the images are so long
+        // SAFETY: each image has that many bytes
         let refusals = unsafe {
             [
                 before_plaitgate_table_from_builtin(before.as_mut_ptr(), before.len()),
@@ -147,7 +136,7 @@ fn main() {
     let [bytes_before, bytes_now] = sizes[..] else { panic!("the sizes of an image before and now") };
     let images = Images::of_builtin(bytes_before, bytes_now);
     let bench = Bench::begin();
-    bench.begin_beside("before", "now");
+    bench.begin_against("before", "now");
     for order in &ORDERS {
         by_image!(bench, order, images, "GPS to UTC", "gps_to_utc", OF_GPS);
         by_image!(bench, order, images, "UTC to GPS", "utc_to_gps", OF_UTC);
@@ -159,7 +148,7 @@ fn main() {
         by_image!(bench, order, images, "GLONASS to BeiDou", "glonass_to_beidou", OF_LATER_GLONASS);
         by_image!(bench, order, images, "Unix to GPS", "gps_from_unix_seconds", OF_UNIX);
         by_image!(bench, order, images, "GPS to Unix", "gps_as_unix_seconds", OF_GPS);
-        bench.beside(
+        bench.against(
             "lookup, image",
             order.name,
             &pairs(order, OF_GPS),
