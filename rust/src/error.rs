@@ -96,6 +96,12 @@ refusals! {
     12 BadList:
         "a leap-seconds.list is too long, has a malformed line, or no line with the offset 19.",
         "the leap-seconds.list is too long, has a malformed line, or no line with the offset 19";
+    13 NotOnDays:
+        "a table to read civil times by is not regular, or an entry after its first does not begin a day.",
+        "civil times cannot be read by this table: it is not regular, or an entry after its first does not begin a day";
+    14 NoInsertedSecond:
+        "second 60 is given for a minute that has none.",
+        "there is no second 60 at that minute, or it is past the range of counts";
 }
 
 /// What a call that may refuse gives back.

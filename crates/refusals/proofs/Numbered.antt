@@ -22,6 +22,8 @@ numbered k =
     refusal.BadLine ∷
     refusal.InvalidNanos ∷
     refusal.BadList ∷
+    refusal.NotOnDays ∷
+    refusal.NoInsertedSecond ∷
     [])
     (k - 1)
     refusal.Overflow
@@ -40,3 +42,5 @@ numbered-again refusal.OffsetRange = refl
 numbered-again refusal.BadLine = refl
 numbered-again refusal.InvalidNanos = refl
 numbered-again refusal.BadList = refl
+numbered-again refusal.NotOnDays = refl
+numbered-again refusal.NoInsertedSecond = refl

@@ -16,3 +16,5 @@ numberOf refusal.OffsetRange = 9
 numberOf refusal.BadLine = 10
 numberOf refusal.InvalidNanos = 11
 numberOf refusal.BadList = 12
+numberOf refusal.NotOnDays = 13
+numberOf refusal.NoInsertedSecond = 14

@@ -28,6 +28,10 @@ pub enum Refusal {
     InvalidNanos,
     // a leap-seconds.list that is too long, has a malformed line, or has entries but none with offset 19
     BadList,
+    // a table to read civil times by that is not regular, or an entry after its first that does not begin a day
+    NotOnDays,
+    // fields with second 60 that are the civil reading of no GPS count
+    NoInsertedSecond,
 }
 
 impl Refusal {
@@ -48,6 +52,8 @@ impl Refusal {
             Refusal::BadLine => 10,
             Refusal::InvalidNanos => 11,
             Refusal::BadList => 12,
+            Refusal::NotOnDays => 13,
+            Refusal::NoInsertedSecond => 14,
         }
     }
 }
