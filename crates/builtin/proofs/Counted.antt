@@ -2,18 +2,21 @@
 use mathlib.Core.Path.{_≡_, refl, sym, ap, _∙_}
 use mathlib.Core.Bool.{cond}
 use mathlib.Core.List.{List, [], _∷_, _++_, map}
-use Prim.Native.Nat.{ℕ, _+_, _-_, _≤_}
+use Prim.Native.Nat.{ℕ, zero, suc, _+_, _-_, _≤_}
 use native.Mathlib.Omega.{arith}
 use native.Mathlib.Nat.{zero-add, add-assoc}
 use native.Mathlib.Decide.{decLe}
-use borrow.Author.Tests.{le-leb, lt-leb, le-ltb}
+use borrow.Author.Tests.{le-leb, lt-leb}
 use lib.Dec.{leb}
-use lib.IntN.{ℤ, pos}
+use lib.IntN.{pos}
+use lib.ListN.{drop}
 use Rattle.calendar.specs.Formula.{formula, era, yoe, doy, doe}
-use Rattle.tables.specs.Entries.{Entry, threshold, entry, neighbours, telling, lookup, lastUpTo}
+use Rattle.tables.specs.Entries.{Entry, threshold, entry, neighbours, firstThreshold, lookup}
+use Rattle.tables.specs.declared.Place.the-variants as place
+use Rattle.tables.specs.declared.Threshold.{Threshold}
 use Rattle.tables.proofs.Reached as entries
 use Rattle.builtin.specs.Builtin.{builtin, events, thresholdOf, entriesFrom}
-use Rattle.builtin.specs.Reached.{countReached, eventsTo1993, eventsFrom1994, toldAt}
+use Rattle.builtin.specs.Reached.{countReached, eventsTo1993, eventsFrom1994, firstOf, toldAt}
 
 -- a test as a number, two ways
 bit : (x t : ℕ) → 1 - (x - t) ≡ cond (leb x t) 1 0
@@ -50,13 +53,20 @@ thresholds-are : map threshold later ≡ eventsTo1993 ++ eventsFrom1994
 unfolding later events thresholdOf entriesFrom formula era yoe doy doe eventsTo1993 eventsFrom1994
 thresholds-are = refl
 
-by-the-last : (t : ℕ) → lookup builtin t ≡ telling (lastUpTo t first later)
-unfolding builtin first later lookup lastUpTo entriesFrom events
-by-the-last t = rw (le-ltb t 0 (omega arith), le-leb 0 t (omega arith))
+-- the next threshold of entries is that of their thresholds
+next-of : (k : ℕ) (es : List Entry) → firstThreshold (drop k es) ≡ firstOf (drop k (map threshold es))
+next-of zero [] = refl
+next-of zero (e ∷ es) = refl
+next-of (suc k) [] = refl
+next-of (suc k) (e ∷ es) = next-of k es
 
 pub in-force : (t : ℕ) → lookup builtin t ≡ toldAt (entries.reached later t)
-unfolding first
-in-force t = by-the-last t ∙ ap (λ (z : ℤ). telling (entry 0 z)) (entries.last-offset first later t 19 chained refl)
+unfolding builtin first later lookup
+in-force t =
+    let k = entries.reached later t in
+    (rw (zero-add k) at (entries.by-number first later t 0 19 chained refl))
+    ∙ ap (λ (y : Threshold). record { offset = pos (19 + k); place = place.At k; next = y })
+    (next-of k later ∙ ap (λ (xs : List ℕ). firstOf (drop k xs)) thresholds-are)
 
 pub counted : (t : ℕ) → lookup builtin t ≡ toldAt (countReached t eventsTo1993 + countReached t eventsFrom1994)
 counted t =

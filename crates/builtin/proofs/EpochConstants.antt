@@ -10,7 +10,7 @@ use Rattle.calendar.specs.Dates.{utcEpochDay}
 use Rattle.calendar.specs.Epochs.{epochOf}
 use Rattle.calendar.specs.declared.epochs.Epoch.the-variants.{Unix, Utc, Gps, Glonass}
 use Rattle.calendar.proofs.EpochTheorems.{epochs}
-use Rattle.tables.specs.Entries.{offsetAt, lastUpTo, lookup}
+use Rattle.tables.specs.Entries.{offsetAt, inForce, lookup}
 use Rattle.conversions.specs.Conversions.{E, glonassEpoch, inNanos}
 use Rattle.builtin.specs.Builtin.{gpsEpochUnix, builtin, events, thresholdOf, entriesFrom}
 use Rattle.builtin.specs.Events.{eventsUpTo, epochIn, leapSecondsAt}
@@ -68,12 +68,12 @@ unfolding era yoe doy doe formula
 glonass-in-utc = (record { from = dayOf (epochOf Utc); starts = epochs Utc; ends = epochs Glonass }, refl)
 
 pub epochs-are-in-the-table : EpochsAreInTheTable
-unfolding era yoe doy doe formula events eventsUpTo builtin entriesFrom thresholdOf lookup lastUpTo
+unfolding era yoe doy doe formula events eventsUpTo builtin entriesFrom thresholdOf lookup inForce
 epochs-are-in-the-table scale.Gps = refl
 epochs-are-in-the-table scale.Glonass = refl
 epochs-are-in-the-table scale.Galileo = refl
 epochs-are-in-the-table scale.Beidou = refl
 
 pub glonass-begins : GlonassBegins
-unfolding era yoe doy doe formula events builtin entriesFrom thresholdOf lookup lastUpTo
+unfolding era yoe doy doe formula events builtin entriesFrom thresholdOf lookup inForce
 glonass-begins = refl

@@ -1,4 +1,4 @@
--- The built-in table is regular, and so valid; and its events are dates that the calendar has.
+-- The built-in table is regular, and so valid, and on days; and its events are dates that the calendar has.
 use mathlib.Core.Path.{_≡_, refl}
 use mathlib.Core.Bool.{Bool, true, _&&_}
 use mathlib.Core.List.{List, [], _∷_}
@@ -8,7 +8,7 @@ use Rattle.calendar.specs.Calendar.{Date, daysIn, dateOf}
 use Rattle.calendar.specs.Formula.{dayOf, formula, era, yoe, doy, doe}
 use Rattle.calendar.proofs.RealDates.{isReal, real}
 use Rattle.calendar.proofs.CalendarTheorems.{date-of-day}
-use Rattle.tables.specs.Entries.{valid, regular, neighbours}
+use Rattle.tables.specs.Entries.{valid, regular, onDays, neighbours}
 use Rattle.builtin.specs.Builtin.{builtin, events, thresholdOf, entriesFrom}
 
 pub builtin-regular : regular builtin ≡ true
@@ -18,6 +18,11 @@ builtin-regular = refl
 pub builtin-valid : valid builtin ≡ true
 unfolding builtin events thresholdOf entriesFrom formula era yoe doy doe neighbours
 builtin-valid = refl
+
+-- each of its entries after the first begins a day
+pub builtin-on-days : onDays builtin ≡ true
+unfolding builtin events thresholdOf entriesFrom formula era yoe doy doe neighbours
+builtin-on-days = refl
 
 -- each event is the date of its day
 abbrev pub AllReal : List Date → Type 0

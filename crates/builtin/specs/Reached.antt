@@ -1,18 +1,18 @@
 -- How many thresholds a reading has passed: only the contracts of private functions speak of it.
 use mathlib.Core.Bool.{cond}
-use mathlib.Core.List.{List, [], _∷_}
+use mathlib.Core.List.{List, [], _∷_, _++_}
 use Prim.Native.Nat.{ℕ, _+_}
 use lib.Dec.{leb}
 use lib.IntN.{pos}
+use lib.ListN.{drop}
 use Rattle.tables.specs.declared.Lookup.{Lookup}
+use Rattle.tables.specs.declared.Place.the-variants as place
+use Rattle.tables.specs.declared.Threshold.{Threshold}
+use Rattle.tables.specs.declared.Threshold.the-variants as next
 
 unfoldable pub countReached : ℕ → List ℕ → ℕ
 countReached t [] = 0
 countReached t (x ∷ xs) = cond (leb x t) 1 0 + countReached t xs
-
--- what is in force from an event on; 0 stands for the first entry
-abbrev pub toldAt : ℕ → Lookup
-toldAt event = record { offset = pos (19 + event) }
 
 unfoldable pub eventsTo1993 : List ℕ
 eventsTo1993 =
@@ -25,6 +25,19 @@ eventsFrom1994 =
     457_056_029_000_000_000 ∷ 504_489_630_000_000_000 ∷ 551_750_431_000_000_000 ∷ 599_184_032_000_000_000 ∷
     820_108_833_000_000_000 ∷ 914_803_234_000_000_000 ∷ 1_025_136_035_000_000_000 ∷ 1_119_744_036_000_000_000 ∷
     1_167_264_037_000_000_000 ∷ []
+
+-- the first of some thresholds
+abbrev pub firstOf : List ℕ → Threshold
+firstOf [] = next.Nothing
+firstOf (x ∷ xs) = next.At x
+
+-- the threshold after as many events
+abbrev pub eventAfter : ℕ → Threshold
+eventAfter events = firstOf (drop events (eventsTo1993 ++ eventsFrom1994))
+
+-- what is in force from an event on; 0 stands for the first entry
+abbrev pub toldAt : ℕ → Lookup
+toldAt event = record { offset = pos (19 + event); place = place.At event; next = eventAfter event }
 
 -- the UTC counts a second past each event
 unfoldable pub pastTo1993 : List ℕ

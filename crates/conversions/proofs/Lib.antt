@@ -4,4 +4,6 @@ pub mod ByLookup
 pub mod Later
 pub mod Dated
 pub mod Tells
+pub mod LeapSeconds
+pub mod OnNaturals
 pub mod Calls

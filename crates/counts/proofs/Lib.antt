@@ -5,3 +5,4 @@ pub mod Fitting
 pub mod Tells
 pub mod Calls
 mod BeforeEpoch
+pub mod NoneOf

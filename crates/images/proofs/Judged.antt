@@ -9,8 +9,8 @@ use lib.Dec.{eqb}
 use lib.ListN.{length}
 use lib.IntN.{ℤ}
 use Rattle.refusals.specs.Outcome.{Outcome, answered, refused}
-use Rattle.tables.specs.Entries.{Entry, follows, valid, telling, lookup}
-use Rattle.tables.specs.Search.{AtOrBelow}
+use Rattle.tables.specs.Entries.{Entry, follows, valid, lookup}
+use Rattle.tables.specs.Search.{AtOrBelow, slotTold}
 use Rattle.tables.specs.Slots.{slotAt, slots}
 use Rattle.tables.specs.declared.Lookup.{Lookup}
 use Rattle.tables.proofs.InForce.{lookup-is}
@@ -22,12 +22,12 @@ use Rattle.images.proofs.InSlots.{table-sized}
 -- what is told of a place among n slots is what a lookup tells, where the entry there is in force
 pub told-is : (xs : List ℕ) (zs : List ℤ) (n : ℕ) → n ≤ length xs → n ≤ length zs → (t k : ℕ) {place : ℕ}
     → AtOrBelow xs n t k → place ≡ k - 1
-    → cond (eqb n 0) (lookup [] 0) (telling (slotAt xs zs place)) ≡ lookup (slots xs zs n) t
+    → cond (eqb n 0) (lookup [] 0) (slotTold xs zs n place) ≡ lookup (slots xs zs n) t
 unfolding lookup
 told-is xs zs zero h h′ t k p e = refl
 told-is xs zs (suc n) h h′ t k p e =
     rw (ne-eqb (suc n) 0 (λ z. absurd (omega arith)))
-    (ap (λ (i : ℕ). telling (slotAt xs zs i)) e ∙ sym (lookup-is xs zs (suc n) h h′ t k (omega arith) p))
+    (ap (slotTold xs zs (suc n)) e ∙ sym (lookup-is xs zs (suc n) h h′ t k (omega arith) p))
 
 module _ (b : List ℕ) where
   abbrev pub thresholds : List ℕ
@@ -41,7 +41,7 @@ module _ (b : List ℕ) where
 
   -- what is told of a place among n slots
   abbrev pub toldAt : ℕ → ℕ → Lookup
-  toldAt n place = cond (eqb n 0) (lookup [] 0) (telling (slot place))
+  toldAt n place = cond (eqb n 0) (lookup [] 0) (slotTold (tableIn b .thresholds) (tableIn b .offsets) n place)
 
   -- the bytes of an image, with a table that says it has n entries, at most 64
   pub record Opened (n : ℕ) : Type 0 where

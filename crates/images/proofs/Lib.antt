@@ -6,6 +6,7 @@ pub mod Inverses
 pub mod NothingLost
 mod InSlots
 mod OnePass
+mod DaysPassed
 mod Judged
 pub mod Held
 pub mod Dated

@@ -15,12 +15,14 @@ use lib.IntN.{pos, _+ℤ_}
 use mir.Syntax.{w32}
 use mir.Val.{SFits}
 use Rattle.tables.specs.Answers.{takenIn}
-use Rattle.tables.specs.Entries.{Entry, threshold, offset, entry, equal, neighbours, follows, valid, lastUpTo, telling}
+use Rattle.tables.specs.Entries.{Entry, threshold, offset, entry, equal, neighbours, follows, valid, telling, inForce}
 use Rattle.tables.specs.Entries.{lookup, lastOr, currentOffset, lastUpdate, stepRefusal, firstRefusal, checking}
 use Rattle.tables.specs.declared.Lookup.{Lookup}
+use Rattle.tables.specs.declared.Threshold.{Threshold}
+use Rattle.tables.specs.declared.Threshold.the-variants as next
 use Rattle.tables.proofs.Neighbours.{both, step-follows}
 use Rattle.lent.specs.declared.inner.Pass.{Pass}
-use Rattle.lent.specs.Pass.{Seen, seenIn, begun, after, passed, judged, checkAt, updateAt}
+use Rattle.lent.specs.Pass.{Seen, seenIn, begun, after, passed, judged, checkAt, updateAt, orFirst, beforeThreshold, nearer}
 
 -- what the contract of the pass says, at a reading and a list
 abbrev pub Said : ℕ → List Entry → Pass → Type 0
@@ -62,27 +64,28 @@ unfolding firstRefusal
 judged-first zero p e es = refl
 judged-first (suc r) p e es = rw (positive r, positive r)
 
-told-of-one : (b : Bool) (e f : Entry) → cond b (telling e) (telling f) ≡ telling (cond b e f)
-told-of-one true e f = refl
-told-of-one false e f = refl
+-- what the rest of a pass tells, after an entry at place k
+unfoldable foundOn : ℕ → ℕ → Lookup → List Entry → Lookup
+foundOn t k found [] = found
+foundOn t k found (e ∷ es) = foundOn t (suc k) (nearer t (suc k) found e) es
 
-from-second-on : (t k : ℕ) (p f : Entry) (r : ℕ) (es : List Entry)
-    → passed (seen t (suc k) p (telling f) r) es
-    ≡ seen t (suc k + length es) (lastOr p es) (telling (lastUpTo t f es)) (cond (eqb r 0) (firstRefusal (p ∷ es)) r)
-unfolding passed lastOr lastUpTo firstRefusal
+from-second-on : (t k : ℕ) (p : Entry) (f : Lookup) (r : ℕ) (es : List Entry)
+    → passed (seen t (suc k) p f r) es
+    ≡ seen t (suc k + length es) (lastOr p es) (foundOn t k f es) (cond (eqb r 0) (firstRefusal (p ∷ es)) r)
+unfolding passed lastOr foundOn firstRefusal
 from-second-on t k p f r [] = let n : suc k + 0 ≡ suc k = omega arith in rw (unrefused r, n)
 from-second-on t k p f r (e ∷ es) =
     let n : suc k + 1 ≡ suc (suc k) = omega arith in
     let m : suc (suc k) + length es ≡ suc k + suc (length es) = omega arith in
-    rw (positive k, n, ← m, ← judged-first r p e es, told-of-one (leb (threshold e) t) e f)
-    (from-second-on t (suc k) e (cond (leb (threshold e) t) e f) (judged r p e) es)
+    rw (positive k, n, ← m, ← judged-first r p e es)
+    (rw (positive k) at (from-second-on t (suc k) e (nearer t (suc k) f e) (judged r p e) es))
 
 module _ (t : ℕ) where
   whole : (e : Entry) (es : List Entry)
       → passed (begun t) (e ∷ es)
-      ≡ seen t (length (e ∷ es)) (lastOr e es) (telling (lastUpTo t e es)) (firstRefusal (e ∷ es))
+      ≡ seen t (length (e ∷ es)) (lastOr e es) (foundOn t 0 (telling 0 e []) es) (firstRefusal (e ∷ es))
   unfolding passed
-  whole e es = let n : 1 + length es ≡ length (e ∷ es) = omega arith in rw (← n) (from-second-on t 0 e e 0 es)
+  whole e es = let n : 1 + length es ≡ length (e ∷ es) = omega arith in rw (← n) (from-second-on t 0 e (telling 0 e []) 0 es)
 
   pub counted : (es : List Entry) → passed (begun t) es .count ≡ length es
   unfolding passed
@@ -112,25 +115,39 @@ module _ (t : ℕ) where
       let more : 1 < length (e ∷ f ∷ fs) = omega arith in
       rw (whole e (f ∷ fs), lt-leb (length (e ∷ f ∷ fs)) 1 more)
 
-  -- at a reading below an entry of a valid list, no later one is nearer
-  none-nearer : (p f : Entry) (es : List Entry) → valid (p ∷ es) ≡ true → t < threshold p → lastUpTo t f es ≡ f
-  unfolding neighbours lastUpTo
-  none-nearer p f [] v l = refl
-  none-nearer p f (e ∷ es) v l =
+  -- at a reading below an entry of a valid list, no later one changes what is told
+  none-nearer : (k x : ℕ) (p : Entry) (f : Lookup) (es : List Entry) → valid (p ∷ es) ≡ true → t < threshold p
+      → f .next ≡ next.At x → foundOn t k f es ≡ f
+  unfolding neighbours foundOn
+  none-nearer k x p f [] v l n = refl
+  none-nearer k x p f (e ∷ es) v l n =
       let h = both (follows p e) (valid (e ∷ es)) v in
       let rises = both (ltb (threshold p) (threshold e)) (equal (offset e) (offset p +ℤ pos 1)) (h .0) .0 in
       let up = ltb-true (threshold p) (threshold e) rises in
       let a : t < threshold e = omega arith in
-      rw (lt-leb (threshold e) t a) (none-nearer e f es (h .1) a)
+      let same : beforeThreshold f (threshold e) ≡ f = ap (λ (y : Threshold). record { offset = f .offset; place = f .place; next = orFirst y (threshold e) }) n ∙ ap (λ (y : Threshold). record { offset = f .offset; place = f .place; next = y }) (sym n) in
+      rw (positive k, lt-leb (threshold e) t a, same) (none-nearer (suc k) x e f es (h .1) a n)
+
+  -- after an entry that is told, with nothing after it yet
+  from-told : (k : ℕ) (p : Entry) (es : List Entry) → valid (p ∷ es) ≡ true → foundOn t k (telling k p []) es ≡ inForce t k p es
+  unfolding neighbours foundOn inForce
+  from-told k p [] v = refl
+  from-told k p (e ∷ es) v = by-order (decLt t (threshold e)) (from-told (k + 1) e es (both (follows p e) (valid (e ∷ es)) v .1))
+    where
+      by-order : Dec (t < threshold e) → foundOn t (k + 1) (telling (k + 1) e []) es ≡ inForce t (k + 1) e es
+          → foundOn t (suc k) (nearer t (suc k) (telling k p []) e) es
+          ≡ cond (leb (threshold e) t) (inForce t (k + 1) e es) (telling k p (e ∷ es))
+      by-order (yes l) r =
+          rw (positive k, lt-leb (threshold e) t l)
+          (none-nearer (suc k) (threshold e) e (telling k p (e ∷ [])) es (both (follows p e) (valid (e ∷ es)) v .1) l refl)
+      by-order (no l) r =
+          let n : suc k ≡ k + 1 = omega arith in
+          rw (positive k, le-leb (threshold e) t (omega (arith, l)), n) r
 
   pub in-force : (es : List Entry) → valid es ≡ true → passed (begun t) es .found ≡ lookup es t
-  unfolding passed lookup lastUpTo
+  unfolding passed lookup
   in-force [] v = refl
-  in-force (e ∷ es) v = ap (λ (s : Seen). s .found) (whole e es) ∙ by-order (decLt t (threshold e))
-    where
-      by-order : Dec (t < threshold e) → telling (lastUpTo t e es) ≡ lookup (e ∷ es) t
-      by-order (yes l) = rw (lt-ltb t (threshold e) l) (ap telling (none-nearer e e es v l))
-      by-order (no l) = let h : threshold e ≤ t = omega arith in rw (le-ltb t _ h, le-leb _ t h)
+  in-force (e ∷ es) v = ap (λ (s : Seen). s .found) (whole e es) ∙ from-told 0 e es v
 
 -- ---- among 32-bit offsets no entry is refused exactly if the list is valid
 both-none : (k m : ℕ) (b c : Bool) → eqb k 0 ≡ b → eqb m 0 ≡ c → eqb (cond (eqb k 0) m k) 0 ≡ (b && c)

@@ -11,6 +11,8 @@ use Rattle.tables.specs.Answers.{takenIn}
 use Rattle.tables.specs.Entries.{Entry, threshold, entry, telling, lookup, stepRefusal}
 use Rattle.tables.specs.declared.Lookup.{Lookup}
 use Rattle.tables.specs.declared.Taken.{Taken}
+use Rattle.tables.specs.declared.Threshold.{Threshold}
+use Rattle.tables.specs.declared.Threshold.the-variants as next
 use Rattle.lent.specs.declared.inner.Pass.{Pass}
 
 -- at a TAI reading: how many entries were passed, the last of them, what a lookup in them tells, and the first refusal
@@ -29,9 +31,18 @@ seenIn p = record { tai = p .tai; count = p .count; last = p .last; found = p .f
 abbrev pub begun : ℕ → Seen
 begun t = record { tai = t; count = 0; last = entry 0 (pos 19); found = lookup [] 0; refusal = 0 }
 
+-- a threshold, or the given one where there is none
+abbrev pub orFirst : Threshold → ℕ → Threshold
+orFirst (next.At y) x = next.At y
+orFirst next.Nothing x = next.At x
+
+-- with a threshold above the reading: the first of them is the next
+abbrev pub beforeThreshold : Lookup → ℕ → Lookup
+beforeThreshold found x = record { offset = found .offset; place = found .place; next = orFirst (found .next) x }
+
 -- what a lookup tells, one entry on
 abbrev pub nearer : ℕ → ℕ → Lookup → Entry → Lookup
-nearer t place found e = cond (eqb place 0 || leb (threshold e) t) (telling e) found
+nearer t k found e = cond (eqb k 0 || leb (threshold e) t) (telling k e []) (beforeThreshold found (threshold e))
 
 -- the first refusal, one entry on
 abbrev pub judged : ℕ → Entry → Entry → ℕ

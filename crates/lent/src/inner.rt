@@ -8,7 +8,8 @@ ghost use lib.Dec.{eqb};
 ghost use Rattle.refusals.specs.Outcome.{answered};
 ghost use Rattle.tables.specs.Entries.{offset, valid};
 ghost use Rattle.tables.specs.Answers.{takenIn, lengthIn, emptyIn, updateIn, lookupIn, offsetIn, datedOffsetIn};
-ghost use Rattle.lent.specs.Pass.{seenIn, begun, nearer, judged, after, passed, checkAt, ofTaken, updateAt};
+ghost use Rattle.lent.specs.Pass.{seenIn, begun, beforeThreshold, nearer, judged, after, passed};
+ghost use Rattle.lent.specs.Pass.{checkAt, ofTaken, updateAt};
 use refusals::Refusal;
 use scales::tai::Tai;
 use tables::DatedOffset;
@@ -19,7 +20,9 @@ use tables::Lookup;
 use tables::LookupAnswer;
 use tables::NO_EXPIRY;
 use tables::OffsetAnswer;
+use tables::Place;
 use tables::Taken;
+use tables::Threshold;
 use tables::UpdateAnswer;
 use tables::inner::OFFSET_OF_NO_ENTRY;
 use tables::inner::dated_offset_in;
@@ -55,6 +58,22 @@ pub fn begin(tai: u64) -> Pass
     }
 }
 
+// Folds one threshold above the reading into what a lookup tells: the first of them is the next.
+fn before_threshold(found: Lookup, threshold: u64) -> Lookup
+    ensures { λ r. ⌜ r ≡ beforeThreshold found threshold ⌝ }
+{
+    let next = found.next;
+    let place = found.place;
+    match next {
+        Threshold::At(_) => found,
+        Threshold::Nothing => Lookup {
+            offset: found.offset,
+            place,
+            next: Threshold::At(threshold),
+        },
+    }
+}
+
 // Folds one entry into what a lookup tells: of the first entry, and then of each that is at or below the reading.
 fn pick(tai: u64, place: usize, found: Lookup, next: LeapEntry) -> Lookup
     ensures { λ r. ⌜ r ≡ nearer tai place found next ⌝ }
@@ -62,9 +81,11 @@ fn pick(tai: u64, place: usize, found: Lookup, next: LeapEntry) -> Lookup
     if (place == 0) | (next.tai_nanos <= tai) {
         Lookup {
             offset: next.tai_minus_utc,
+            place: Place::At(place),
+            next: Threshold::Nothing,
         }
     } else {
-        found
+        before_threshold(found, next.tai_nanos)
     }
 }
 

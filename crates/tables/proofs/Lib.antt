@@ -14,6 +14,7 @@ pub mod Extensions
 pub mod Buildings
 pub mod Lookups
 pub mod Reached
+pub mod OnDays
 pub mod Stale
 pub mod Tells
 pub mod Calls

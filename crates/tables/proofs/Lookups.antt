@@ -6,9 +6,11 @@ use mathlib.Core.Option.{some}
 use Prim.Native.Nat.{ℕ, suc, _-_, _≤_, _<_}
 use native.Mathlib.Omega.{arith}
 use native.Mathlib.Decide.{decLt}
-use lib.ListN.{length, getD, getElem?}
+use lib.ListN.{length, getD, getElem?, drop}
 use lib.IntN.{pos}
 use Rattle.tables.specs.Entries.{Entry, threshold, entry, valid, telling, lookup}
+use Rattle.tables.specs.declared.Place.the-variants as place
+use Rattle.tables.specs.declared.Threshold.the-variants as next
 use Rattle.tables.proofs.FirstSlots.{some-at}
 use Rattle.tables.proofs.Neighbours.{thresholds-rise}
 use Rattle.tables.proofs.InForce.{Reached, in-force}
@@ -16,11 +18,12 @@ use Rattle.tables.proofs.Tested.{in-range, at-place}
 
 -- what is in force at t, by the entry that tells it
 pub record LooksUp (es : List Entry) (t : ℕ) : Type 0 where
-  pub none : es ≡ [] → lookup es t ≡ record { offset = pos 19 }
-  pub before : (e : Entry) → getElem? es 0 ≡ some e → t < threshold e → lookup es t ≡ telling e
+  pub none : es ≡ [] → lookup es t ≡ record { offset = pos 19; place = place.Nothing; next = next.Nothing }
+  pub before : (e : Entry) → getElem? es 0 ≡ some e → t < threshold e → lookup es t ≡ telling 0 e (drop 1 es)
   -- the entry at place k is at or below t, and every later one above
   pub last : (k : ℕ) (e : Entry) → getElem? es k ≡ some e → threshold e ≤ t
-      → ((j : ℕ) (f : Entry) → k < j → getElem? es j ≡ some f → t < threshold f) → lookup es t ≡ telling e
+      → ((j : ℕ) (f : Entry) → k < j → getElem? es j ≡ some f → t < threshold f)
+      → lookup es t ≡ telling k e (drop (suc k) es)
 
 module _ (es : List Entry) (t : ℕ) (v : valid es ≡ true) where
   abbrev d : Entry
@@ -56,9 +59,12 @@ module _ (es : List Entry) (t : ℕ) (v : valid es ≡ true) where
   unfolding lookup
   looks-up = record {
     none = λ z. rw z refl;
-    before = λ e h l. in-force t 0 d es (in-range es 0 e d h) (below-all e h l) ∙ ap telling (at-place es 0 e d h);
+    before = λ e h l.
+        in-force t 0 d es (in-range es 0 e d h) (below-all e h l)
+        ∙ ap (λ (f : Entry). telling 0 f (drop 1 es)) (at-place es 0 e d h);
     last = λ k e h l later.
         let r = in-range es k e d h in
         let s : suc k - 1 ≡ k = omega arith in
-        (rw s at (in-force t (suc k) d es (omega arith) (up-to k e h l later))) ∙ ap telling (at-place es k e d h);
+        (rw s at (in-force t (suc k) d es (omega arith) (up-to k e h l later)))
+        ∙ ap (λ (f : Entry). telling k f (drop (suc k) es)) (at-place es k e d h);
   }

@@ -1,16 +1,20 @@
 -- The offset in force over a regular list is 19 and the number of later thresholds passed; the laws of that number, by
 -- induction on the list.
 use mathlib.Core.Path.{_≡_, refl, ap, _∙_}
-use mathlib.Core.Bool.{true, cond}
+use mathlib.Core.Bool.{true, cond, _&&_}
 use mathlib.Core.List.{List, [], _∷_, List·Memᴰ, List·Memᴰ·head, List·Memᴰ·tail}
 use Prim.Native.Nat.{ℕ, suc, _+_, _-_, _≤_, _<_}
 use native.Mathlib.Omega.{arith}
 use native.Mathlib.Decide.{decLe, decLt}
-use borrow.Author.Tests.{le-leb, lt-leb, leb-true}
-use lib.Dec.{leb, ltb}
-use lib.ListN.{length}
+use borrow.Author.Tests.{le-leb, lt-leb, leb-true, eqb-true}
+use lib.Dec.{leb, ltb, eqb}
+use lib.ListN.{length, drop}
 use lib.IntN.{pos, _+ℤ_}
-use Rattle.tables.specs.Entries.{Entry, threshold, offset, equal, neighbours, follows, aDayOn, day, lastUpTo}
+use Rattle.tables.specs.Entries.{Entry, threshold, offset, equal, neighbours, follows, aDayOn, day}
+use Rattle.tables.specs.Entries.{valid, begins, regular, firstThreshold, telling, inForce}
+use Rattle.tables.specs.declared.Lookup.{Lookup}
+use Rattle.tables.specs.declared.Place.the-variants as place
+use Rattle.tables.specs.declared.Threshold.the-variants as next
 use Rattle.tables.proofs.Integers.{equal-true}
 use Rattle.tables.proofs.Neighbours.{both}
 
@@ -28,6 +32,34 @@ chain p (e ∷ es) f d =
     let d2 = both (aDayOn p e) (neighbours aDayOn (e ∷ es)) d in
     let more = both (ltb (threshold p) (threshold e)) (equal (offset e) (offset p +ℤ pos 1)) (f2 .0) .1 in
     (leb-true (threshold p + day) (threshold e) (d2 .0), equal-true _ _ more, chain e es (f2 .1) (d2 .1))
+
+-- a regular list is (0, 19) and a chain of at most 63 later entries
+pub record Regular (es : List Entry) : Type 0 where
+  pub first : Entry
+  pub begins-with : es ≡ first ∷ drop 1 es
+  pub at-0 : threshold first ≡ 0
+  pub is-19 : offset first ≡ pos 19
+  pub later : Chain first (drop 1 es)
+  pub few : length (drop 1 es) ≤ 63
+
+pub of-regular : (es : List Entry) → regular es ≡ true → Regular es
+unfolding neighbours
+of-regular [] r = let z : _≡_ {A = ℕ} 0 1 = cc in absurd (omega arith)
+of-regular (e ∷ es) r =
+    let all = e ∷ es in
+    let (three, days-apart) = both (leb (length all) 64 && valid all && begins all) (neighbours aDayOn all) r in
+    let (two, first) = both (leb (length all) 64 && valid all) (begins all) three in
+    let (at-most-64, is-valid) = both (leb (length all) 64) (valid all) two in
+    let (at-0, is-19) = both (eqb (threshold e) 0) (equal (offset e) (pos 19)) first in
+    let at-most = leb-true (length all) 64 at-most-64 in
+    record {
+      first = e;
+      begins-with = refl;
+      at-0 = eqb-true (threshold e) 0 at-0;
+      is-19 = equal-true _ _ is-19;
+      later = chain e es is-valid days-apart;
+      few = omega arith;
+    }
 
 -- how many thresholds are at most t: `1 - (x - t)` is 1 if x ≤ t, and else 0
 unfoldable pub reached : List Entry → ℕ → ℕ
@@ -93,26 +125,37 @@ an-entry-more es t t′ b = go es (b .among)
     go (e ∷ es) (List·Memᴰ·head q) = omega (arith, ap threshold q, b .after, b .by, rises es t t′ (omega (arith, b .after, b .by)))
     go (e ∷ es) (List·Memᴰ·tail m) = omega (arith, b .after, b .by, go es m)
 
--- after p, at a reading before it, no entry is found
-none-found : (p f : Entry) (es : List Entry) (t : ℕ) → Chain p es → t < threshold p → lastUpTo t f es ≡ f
-unfolding lastUpTo
-none-found p f [] t c l = refl
-none-found p f (e ∷ es) t c l =
-    let a : t < threshold e = omega arith in
-    rw (lt-leb (threshold e) t a) (none-found e f es t (c .2) a)
+-- what a lookup tells by numbers, before the entries es
+abbrev pub told : ℕ → ℕ → List Entry → Lookup
+told n k es = record { offset = pos n; place = place.At k; next = firstThreshold es }
 
--- the last entry up to t has the offset of p and one for each that is passed
-pub last-offset : (p : Entry) (es : List Entry) (t n : ℕ) → Chain p es → offset p ≡ pos n
-    → offset (lastUpTo t p es) ≡ pos (n + reached es t)
-unfolding lastUpTo reached
-last-offset p [] t n c o = o ∙ ap pos (omega arith)
-last-offset p (e ∷ es) t n c o =
-    go (decLe (threshold e) t) (last-offset e es t (suc n) (c .2) (c .1 ∙ rw o (ap pos (omega arith))))
+-- what is in force from place k on, where p is: the entry as many places on as thresholds are passed
+pub by-number : (p : Entry) (es : List Entry) (t k n : ℕ) → Chain p es → offset p ≡ pos n
+    → inForce t k p es ≡ told (n + reached es t) (k + reached es t) (drop (reached es t) es)
+unfolding inForce reached
+by-number p [] t k n c o =
+    let same : n ≡ n + 0 = omega arith in
+    let here : k ≡ k + 0 = omega arith in
+    λ i. record { offset = (o ∙ ap pos same) i; place = place.At (here i); next = next.Nothing }
+by-number p (e ∷ es) t k n c o =
+    go (decLe (threshold e) t) (by-number e es t (k + 1) (suc n) (c .2) (c .1 ∙ rw o (ap pos (omega arith))))
   where
-    go : Dec (threshold e ≤ t) → offset (lastUpTo t e es) ≡ pos (suc n + reached es t)
-        → offset (lastUpTo t (cond (leb (threshold e) t) e p) es) ≡ pos (n + reached (e ∷ es) t)
-    go (yes h) r = rw (le-leb (threshold e) t h) (r ∙ ap pos (omega arith))
+    all : ℕ → Lookup
+    all m = told (n + m) (k + m) (drop m (e ∷ es))
+
+    go : Dec (threshold e ≤ t) → inForce t (k + 1) e es ≡ told (suc n + reached es t) (k + 1 + reached es t) (drop (reached es t) es)
+        → cond (leb (threshold e) t) (inForce t (k + 1) e es) (telling k p (e ∷ es)) ≡ all (reached (e ∷ es) t)
+    go (yes h) r =
+        let one : suc (reached es t) ≡ 1 - (threshold e - t) + reached es t = omega (arith, h) in
+        let same : suc n + reached es t ≡ n + suc (reached es t) = omega arith in
+        let here : k + 1 + reached es t ≡ k + suc (reached es t) = omega arith in
+        rw (le-leb (threshold e) t h)
+        (r ∙ (λ i. told (same i) (here i) (drop (reached es t) es)) ∙ ap all one)
     go (no h) r =
         let a : t < threshold e = omega (arith, h) in
         let none = none-within-a-day e es t (c .2) (omega arith) in
-        rw (lt-leb (threshold e) t a) (ap offset (none-found e p es t (c .2) a) ∙ o ∙ ap pos (omega arith))
+        let zero-on : 0 ≡ 1 - (threshold e - t) + reached es t = omega (arith, h, none) in
+        let same : n ≡ n + 0 = omega arith in
+        let here : k ≡ k + 0 = omega arith in
+        rw (lt-leb (threshold e) t a)
+        ((λ i. record { offset = (o ∙ ap pos same) i; place = place.At (here i); next = next.At (threshold e) }) ∙ ap all zero-on)

@@ -4,15 +4,15 @@ use mathlib.Core.Logic.{_↔_}
 use mathlib.Core.Bool.{Bool, true, false, _&&_}
 use mathlib.Core.List.{List, [], _∷_}
 use mathlib.Core.Option.{some, none}
-use Prim.Native.Nat.{ℕ, suc, _+_, _≤_, _<_}
+use Prim.Native.Nat.{ℕ, suc, _+_, _%_, _≤_, _<_}
 use native.Mathlib.Omega.{arith}
 use native.Mathlib.Decide.{decLt}
-use borrow.Author.Tests.{leb-true, eqb-true, ltb-true, le-leb, lt-ltb}
+use borrow.Author.Tests.{leb-true, eqb-true, eq-eqb, ltb-true, le-leb, lt-ltb}
 use lib.Dec.{leb, ltb, eqb}
 use lib.ListN.{length, getD, getElem?}
-use lib.IntN.{pos, _+ℤ_}
+use lib.IntN.{pos, natAbs, _+ℤ_, _-ℤ_, _*ℤ_}
 use Rattle.tables.specs.Entries.{Entry, threshold, offset, entry, equal, neighbours, follows, aDayOn, valid}
-use Rattle.tables.specs.Entries.{begins, regular}
+use Rattle.tables.specs.Entries.{begins, regular, beginsADay, onDays}
 use Rattle.tables.proofs.Integers.{equal-true, equal-yes}
 use Rattle.tables.proofs.FirstSlots.{some-at, none-at}
 use Rattle.tables.proofs.Neighbours.{both, at-each}
@@ -38,6 +38,13 @@ ValidTested = (es : List Entry) → (valid es ≡ true) ↔ Valid es
 
 abbrev pub RegularTested : Type 0
 RegularTested = (es : List Entry) → (regular es ≡ true) ↔ Regular es
+
+-- regular, and each later threshold less its offset in seconds is a whole number of days of 86,400 s
+abbrev pub OnDaysTested : Type 0
+OnDaysTested =
+    (es : List Entry) → (onDays es ≡ true)
+    ↔ (Regular es
+    × AtEach (λ p e. natAbs (pos (threshold e) -ℤ offset e *ℤ pos 1_000_000_000) % 86_400_000_000_000 ≡ 0) es)
 
 -- the entry at a place, where there is one
 module _ (es : List Entry) (k : ℕ) (e d : Entry) (h : getElem? es k ≡ some e) where
@@ -110,6 +117,16 @@ regular-tested es = (is, if)
     if r =
         let days : neighbours aDayOn es ≡ true = every aDayOn es (λ k p e h h′. le-leb _ _ (r .a-day-on k p e h h′)) in
         rw (le-leb (length es) 64 (r .few), valid-tested es .1 (r .valid), begins-if es (r .begins), days)
+
+pub on-days-tested : OnDaysTested
+on-days-tested es = (
+  λ h.
+      let (is-regular, days) = both (regular es) (neighbours (λ p e. beginsADay e) es) h in
+      (regular-tested es .0 is-regular, λ k p e h h′. eqb-true _ 0 (passes (λ p e. beginsADay e) es days k p e h h′)),
+  λ (r, days).
+      let all = every (λ p e. beginsADay e) es (λ k p e h h′. eq-eqb _ 0 (days k p e h h′)) in
+      rw (regular-tested es .1 r, all),
+)
 
 -- three thresholds, the second a day after the first, and the third at t
 abbrev three : ℕ → List Entry

@@ -2,13 +2,16 @@
 use mathlib.Core.Bool.{Bool, true, false, cond, _&&_}
 use mathlib.Core.List.{List, [], _∷_}
 use mathlib.Core.Option.{Option, none, some}
-use Prim.Native.Nat.{ℕ, _+_, _*_}
+use Prim.Native.Nat.{ℕ, _+_, _*_, _%_}
 use lib.Dec.{ltb, leb, eqb}
 use lib.ListN.{length}
-use lib.IntN.{ℤ, pos, negsuc, _+ℤ_}
+use lib.IntN.{ℤ, pos, negsuc, natAbs, _+ℤ_, _-ℤ_, _*ℤ_}
 use Rattle.counts.specs.Units.{second, daySeconds}
 use Rattle.tables.specs.declared.LeapEntry.{LeapEntry}
 use Rattle.tables.specs.declared.Lookup.{Lookup}
+use Rattle.tables.specs.declared.Place.the-variants as place
+use Rattle.tables.specs.declared.Threshold.{Threshold}
+use Rattle.tables.specs.declared.Threshold.the-variants as next
 
 -- from the TAI reading `threshold e` on, in nanoseconds, TAI is `offset e` seconds ahead of UTC
 abbrev pub Entry : Type 0
@@ -57,20 +60,33 @@ begins (e ∷ es) = eqb (threshold e) 0 && equal (offset e) (pos 19)
 abbrev pub regular : List Entry → Bool
 regular es = leb (length es) 64 && valid es && begins es && neighbours aDayOn es
 
--- the last entry with threshold ≤ t, and `found` where there is none
-unfoldable pub lastUpTo : ℕ → Entry → List Entry → Entry
-lastUpTo t found [] = found
-lastUpTo t found (e ∷ es) = lastUpTo t (cond (leb (threshold e) t) e found) es
+-- the threshold less the offset in seconds is a whole number of days
+abbrev pub beginsADay : Entry → Bool
+beginsADay e = eqb (natAbs (pos (threshold e) -ℤ offset e *ℤ pos second) % day) 0
 
--- what a lookup tells of an entry
-abbrev pub telling : Entry → Lookup
-telling e = record { offset = offset e }
+-- regular, and each later entry begins a day
+abbrev pub onDays : List Entry → Bool
+onDays es = regular es && neighbours (λ p e. beginsADay e) es
 
--- what is in force at a TAI reading: the offset 19 if there is no entry, the first entry below the first threshold,
--- else the last entry with threshold ≤ t
+-- the threshold of the first of some entries
+abbrev pub firstThreshold : List Entry → Threshold
+firstThreshold [] = next.Nothing
+firstThreshold (e ∷ es) = next.At (threshold e)
+
+-- what a lookup tells of entry e at place k, before the entries es
+abbrev pub telling : ℕ → Entry → List Entry → Lookup
+telling k e es = record { offset = offset e; place = place.At k; next = firstThreshold es }
+
+-- what is in force at t from place k on, where e is: e, or a later entry as long as thresholds are ≤ t
+unfoldable pub inForce : ℕ → ℕ → Entry → List Entry → Lookup
+inForce t k e [] = telling k e []
+inForce t k e (f ∷ fs) = cond (leb (threshold f) t) (inForce t (k + 1) f fs) (telling k e (f ∷ fs))
+
+-- what is in force at a TAI reading: the offset 19 if there is no entry, the first entry below the first threshold, else
+-- the last entry with threshold ≤ t (in a valid list: proofs/Lookups.antt)
 unfoldable pub lookup : List Entry → ℕ → Lookup
-lookup [] t = record { offset = pos 19 }
-lookup (e ∷ es) t = telling (cond (ltb t (threshold e)) e (lastUpTo t e (e ∷ es)))
+lookup [] t = record { offset = pos 19; place = place.Nothing; next = next.Nothing }
+lookup (e ∷ es) t = inForce t 0 e es
 
 abbrev pub offsetAt : List Entry → ℕ → ℤ
 offsetAt es t = lookup es t .offset

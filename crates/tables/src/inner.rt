@@ -1,16 +1,17 @@
 // What the calls share: work on lent thresholds and offsets, of which the first n count.
 ghost use mathlib.Core.Path.{_≡_};
-ghost use mathlib.Core.Bool.{true};
+ghost use mathlib.Core.Bool.{true, cond};
 ghost use mathlib.Core.List.{[]};
 ghost use Prim.Native.Nat.{ℕ, _+_, _-_, _≤_, _<_, min};
-ghost use lib.Dec.{leb, eqb};
-ghost use lib.ListN.{length};
+ghost use lib.Dec.{leb, eqb, ltb};
+ghost use lib.ListN.{length, getD};
 ghost use Rattle.refusals.specs.Outcome.{answered, changed};
 ghost use Rattle.tables.specs.Entries.{offsetRefusal, stepRefusal, firstRefusal, joinRefusal, lookup, valid, neighbours, day};
 ghost use Rattle.tables.specs.Entries.{aDayOn, regular};
 ghost use Rattle.tables.specs.Slots.{slotAt, slots, validSlots, ofValidSlots, joinedTo, tableOf};
 ghost use Rattle.tables.specs.Expiry.{staleAt, dated};
 ghost use Rattle.tables.specs.Search.{Rises, AtOrBelow};
+ghost use Rattle.tables.specs.declared.Threshold.the-variants as next;
 ghost use Rattle.tables.specs.Answers.{takenIn, lookupIn, datedOffsetIn};
 use crate::DatedOffset;
 use crate::LeapEntry;
@@ -19,8 +20,10 @@ use crate::Lookup;
 use crate::LookupAnswer;
 use crate::NO_EXPIRY;
 use crate::OffsetAnswer;
+use crate::Place;
 use crate::RUNTIME_CAPACITY;
 use crate::Taken;
+use crate::Threshold;
 use refusals::Refusal;
 
 // The largest offset, after which no entry can follow.
@@ -30,7 +33,7 @@ const LARGEST_OFFSET: i32 = i32::MAX;
 pub const OFFSET_OF_NO_ENTRY: i32 = 19;
 
 // 86,400 s
-const NANOS_PER_DAY: u64 = 86_400_000_000_000;
+pub const NANOS_PER_DAY: u64 = 86_400_000_000_000;
 
 // The entry in slot i.
 pub fn slot<'a>(thresholds: &'a [u64], offsets: &'a [i32], i: usize) -> LeapEntry
@@ -104,7 +107,7 @@ pub fn is_valid<'a>(thresholds: &'a [u64; 64], offsets: &'a [i32; 64], n: usize)
 }
 
 // Whether a threshold lies a day or more after the one before.
-fn a_day_on(before: u64, next: u64) -> bool
+pub fn a_day_on(before: u64, next: u64) -> bool
     ensures { λ r. ⌜ r ≡ leb (before + day) next ⌝ }
 {
     before <= next && NANOS_PER_DAY <= next - before
@@ -183,6 +186,21 @@ pub fn told_of_none() -> Lookup
 {
     Lookup {
         offset: OFFSET_OF_NO_ENTRY,
+        place: Place::Nothing,
+        next: Threshold::Nothing,
+    }
+}
+
+// The threshold in the slot after another, if that is among the first n.
+fn threshold_after(thresholds: &[u64], n: usize, place: usize) -> Threshold
+    requires { ⌜ n ≤ length (now thresholds) ⌝ }
+    requires { ⌜ place < n ⌝ }
+    ensures { λ r. ⌜ r ≡ cond (ltb (place + 1) n) (next.At (getD (now (thresholds .entry)) (place + 1) 0)) next.Nothing ⌝ }
+{
+    if place + 1 < n {
+        Threshold::At(thresholds[place + 1])
+    } else {
+        Threshold::Nothing
     }
 }
 
@@ -199,6 +217,8 @@ pub fn look_up<'a>(thresholds: &'a [u64], offsets: &'a [i32], n: usize, tai: u64
     let place = place_in_force(count_at_or_below(thresholds, n, tai));
     Lookup {
         offset: offsets[place],
+        place: Place::At(place),
+        next: threshold_after(thresholds, n, place),
     }
 }
 

@@ -76,10 +76,25 @@ pub enum UpdateAnswer {
     Refused(Refusal),
 }
 
-// What a lookup tells of the entry in force at a TAI reading.
+// The place of an entry, counted from 0, or nothing.
+pub enum Place {
+    At(usize),
+    Nothing,
+}
+
+// A threshold, or nothing.
+pub enum Threshold {
+    At(u64),
+    Nothing,
+}
+
+// What a lookup tells of the entry in force at a TAI reading. In a table with no entry it is 19, and nothing.
 pub struct Lookup {
     // TAI minus UTC in seconds
     pub offset: i32,
+    pub place: Place,
+    // the threshold of the entry after it
+    pub next: Threshold,
 }
 
 pub enum LookupAnswer {

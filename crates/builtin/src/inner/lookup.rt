@@ -10,11 +10,13 @@ ghost use Rattle.counts.specs.Answers.{countIn};
 ghost use Rattle.tables.specs.Entries.{lookup};
 ghost use Rattle.conversions.specs.Conversions.{gpsToUtc};
 ghost use Rattle.builtin.specs.Builtin.{builtin};
-ghost use Rattle.builtin.specs.Reached.{countReached, eventsTo1993, eventsFrom1994, toldAt};
+ghost use Rattle.builtin.specs.Reached.{countReached, eventsTo1993, eventsFrom1994, eventAfter, toldAt};
 use conversions::inner;
 use counts::CountAnswer;
 use tables::Lookup;
 use tables::LookupAnswer;
+use tables::Place;
+use tables::Threshold;
 
 // The threshold of each event: (its Unix second − 315,964,800 + the offset that begins) × 10⁹.
 pub const JULY_1981: u64 = 46_828_820_000_000_000;
@@ -125,6 +127,33 @@ fn events_from_1994(tai: u64) -> u64
     )
 }
 
+// The threshold after as many events, which only a reading of the clock needs.
+fn threshold_after(events: u64) -> Threshold
+    ensures { λ r. ⌜ r ≡ eventAfter events ⌝ }
+{
+    match events {
+        0 => Threshold::At(JULY_1981),
+        1 => Threshold::At(JULY_1982),
+        2 => Threshold::At(JULY_1983),
+        3 => Threshold::At(JULY_1985),
+        4 => Threshold::At(JANUARY_1988),
+        5 => Threshold::At(JANUARY_1990),
+        6 => Threshold::At(JANUARY_1991),
+        7 => Threshold::At(JULY_1992),
+        8 => Threshold::At(JULY_1993),
+        9 => Threshold::At(JULY_1994),
+        10 => Threshold::At(JANUARY_1996),
+        11 => Threshold::At(JULY_1997),
+        12 => Threshold::At(JANUARY_1999),
+        13 => Threshold::At(JANUARY_2006),
+        14 => Threshold::At(JANUARY_2009),
+        15 => Threshold::At(JULY_2012),
+        16 => Threshold::At(JULY_2015),
+        17 => Threshold::At(JANUARY_2017),
+        _ => Threshold::Nothing,
+    }
+}
+
 // What the entry tells that is in force from an event on, the first event being 1; 0 stands for the entry at reading 0.
 pub fn entry_told(event: u64) -> Lookup
     requires { ⌜ event ≤ 18 ⌝ }
@@ -132,6 +161,8 @@ pub fn entry_told(event: u64) -> Lookup
 {
     Lookup {
         offset: (19 + event) as i32,
+        place: Place::At(event as usize),
+        next: threshold_after(event),
     }
 }
 

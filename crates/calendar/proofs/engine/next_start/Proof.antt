@@ -1,5 +1,5 @@
 -- Each arm answers for its month, and the last one for the numbers that none of the others names.
-use Prim.Native.Nat.{ℕ, zero, suc, _+_, _≤_}
+use Prim.Native.Nat.{ℕ, _+_, _≤_}
 use mathlib.Core.Path.{_≡_, sym, ap}
 use mathlib.Core.Bool.{cond}
 use native.Mathlib.Omega.{arith}
@@ -7,16 +7,8 @@ use borrow.Author.Needs.{needs}
 use borrow.Author.Tests.{le-ltb, ne-eqb}
 use lib.Dec.{eqb, ltb}
 use lib.ListN.{getD}
+use Rattle.counts.proofs.NoneOf.{at-least}
 use Rattle.calendar.proofs.engine.next_start as call
-
--- x is none of the first n numbers, so it is not below n
-abbrev NoneOf : ℕ → ℕ → Type 0
-NoneOf zero x = Unit {0}
-NoneOf (suc n) x = NoneOf n x × (x ≡ n → ⊥)
-
-at-least : (n x : ℕ) → NoneOf n x → n ≤ x
-at-least zero x h = omega arith
-at-least (suc n) x h = omega (arith, at-least n x (h .0), h .1)
 
 module _ (c : call.Tie.Start) where
   -- what the contract says of a month

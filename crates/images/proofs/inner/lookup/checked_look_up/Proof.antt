@@ -115,5 +115,6 @@ checked-look-up-spec =
     loop-again
     (λ c. search needs)
     loop-again-2
-    (λ c κs. let p = c .before .loop .inv in (p .opened .size, omega (arith, p, p .counted .within)))
+    (λ c κs.
+    let p = c .before .loop .inv in (p .opened .size, (p .opened .few, omega (arith, p, p .counted .within))))
     returns-6)

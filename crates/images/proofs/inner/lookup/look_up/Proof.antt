@@ -28,7 +28,8 @@ told-requires c κs =
     let count = c .before in
     let within = count .count-at-or-below .ensures .within in
     let few = known (count .before .before .before) .few in
-    (search needs, omega (arith, c .place-in-force .ensures, count .before .len .ensures))
+    let len = count .before .len .ensures in
+    (search needs, (omega (arith, len, few), omega (arith, c .place-in-force .ensures, len)))
 
 returns : call.Tie.Need-returns
 returns c =

@@ -3,10 +3,10 @@ use mathlib.Core.Path.{_≡_, refl, sym, ap, _∙_}
 use mathlib.Core.List.{List}
 use Prim.Native.Nat.{ℕ, _+_, _*_, _-_, _^_, _≤_, _<_}
 use native.Mathlib.Omega.{arith}
-use native.Mathlib.Decide.{decLt}
+use native.Mathlib.Decide.{decLe, decLt}
 use lib.IntN.{pos, subℕ, _+ℤ_, _-ℤ_}
 use Rattle.refusals.specs.Outcome.{Outcome, answered, refused, then}
-use Rattle.refusals.proofs.Given.{no-refusal}
+use Rattle.refusals.proofs.Given.{one-answer, no-refusal}
 use Rattle.refusals.proofs.Steps.{goes-on, stops, then-answered}
 use Rattle.counts.specs.Exact.{countOf}
 use Rattle.counts.specs.Units.{second}
@@ -14,10 +14,10 @@ use Rattle.counts.proofs.Difference.{not-below, below, of-naturals, plus}
 use Rattle.counts.proofs.Fitting.{is-count, no-count}
 use Rattle.scales.specs.Scales.{taiMinusGps}
 use Rattle.tables.specs.Entries.{Entry, offsetAt, day}
 use Rattle.conversions.specs.Conversions.{E, countOr, utcAtOffset, gpsAtOffset, firstReading, secondReading, gpsToUtc}
 use Rattle.conversions.specs.Conversions.{utcToGps}
 use Rattle.conversions.proofs.SinceEpoch.{since-E, since, before}
-use Rattle.demands.proofs.LeapSeconds.{LeapSeconds}
+use Rattle.conversions.proofs.LeapSeconds.{LeapSeconds, in-force}
 
 -- a step from k answers only if k is a count
 pub went-on : (k : ℕ) (next : ℕ → Outcome ℕ) {u : ℕ} → then (countOf (pos k)) next ≡ answered u
@@ -54,7 +54,7 @@ module _ (es : List Entry) (k : ℕ → ℕ) (f : LeapSeconds es k) where
   utc g = g + E - k (tai g) * second
 
   at-reading : (g : ℕ) → utcAtOffset (offsetAt es (tai g)) g ≡ countOf (pos (utc g))
-  at-reading g = rw (f .in-force (tai g)) (utc-at-offset g (k (tai g)) (f .few (tai g)))
+  at-reading g = rw (in-force f (tai g)) (utc-at-offset g (k (tai g)) (f .few (tai g)))
 
   pub to-utc : (g u : ℕ) → Reads g u → gpsToUtc es g ≡ answered u
   to-utc g u r =
@@ -72,7 +72,7 @@ module _ (es : List Entry) (k : ℕ → ℕ) (f : LeapSeconds es k) where
   -- UTC to GPS, by its two readings
   by-readings : (u a b : ℕ) → firstReading u ≡ a → secondReading u (pos (19 + k a)) a ≡ b
       → utcToGps es u ≡ countOf (subℕ (u + k b * second) E)
-  by-readings u a b ea eb = rw (ea, f .in-force a, eb, f .in-force b) (gps-at-offset u (k b))
+  by-readings u a b ea eb = rw (ea, in-force f a, eb, in-force f b) (gps-at-offset u (k b))
 
   -- before E both readings are on the first day
   first-day : (d u j : ℕ) → d < day → u + j < E + day → countOr d (pos u -ℤ pos E +ℤ pos j) < day
@@ -108,3 +108,39 @@ module _ (es : List Entry) (k : ℕ → ℕ) (f : LeapSeconds es k) where
       ∙ ap countOf (not-below (u + k (b u) * second) E (omega arith))
       ∙ is-count (u + k (b u) * second - E) (omega arith)
       ∙ ap answered (omega arith)
+
+  -- an answer of the way back is read as the UTC count: a third lookup would find what the second found
+  pub comes-back : (u g : ℕ) → u < 2 ^ 64 → utcToGps es u ≡ answered g → Reads g u
+  comes-back u g m e = go (decLe E u)
+    where
+      back : ℕ
+      back = u - E + k (b u) * second
+
+      settled : Dec (k (b u) ≤ k (a u)) → k (b u) ≤ 63 → k (a u) ≤ k (b u) → k (tai back) ≡ k (b u)
+      settled (yes h) few up = ap k (omega arith)
+      settled (no h) few up =
+          omega (arith, h, f .rises (b u) (tai back) (omega arith), f .one-in-a-day (a u) (tai back) (omega arith))
+
+      go : Dec (E ≤ u) → Reads g u
+      go (no h) = absurd (no-refusal (utcToGps es u) e (before-E u (omega (arith, h))))
+      go (yes h) =
+          let is : back ≡ g = one-answer (utcToGps es u) (from-E u h m) e in
+          let few = f .few (b u) in
+          let same = settled (decLe (k (b u)) (k (a u))) few (f .rises (a u) (b u) (omega arith)) in
+          let there : k (tai g) ≡ k (b u) = ap (λ (x : ℕ). k (tai x)) (sym is) ∙ same in
+          record { tai-fits = omega arith; utc-fits = m; exact = omega arith }
+
+  -- no count is read as a UTC count before E
+  pub not-before-E : (g u : ℕ) → Reads g u → E ≤ u
+  not-before-E g u r = go (decLt (tai g) day)
+    where
+      go : Dec (tai g < day) → E ≤ u
+      go (yes h) = omega (arith, r .exact, f .none-on-the-first-day (tai g) h)
+      go (no h) = omega (arith, r .exact, f .few (tai g), h)
+
+  -- two that are read as one UTC count: the later one is a second and a leap second on
+  pub apart : (g₁ g₂ u : ℕ) → Reads g₁ u → Reads g₂ u → g₁ < g₂ → (g₂ ≡ g₁ + second) × (k (tai g₁) < k (tai g₂))
+  apart g₁ g₂ u r₁ r₂ l =
+      let few = f .few (tai g₂) in
+      let one = f .one-in-a-day (tai g₁) (tai g₂) (omega (arith, r₁ .exact, r₂ .exact)) in
+      (omega (arith, r₁ .exact, r₂ .exact), omega (arith, r₁ .exact, r₂ .exact))
