@@ -1,0 +1,4 @@
+pub mod Readings
+pub mod ByLookup
+pub mod Order
+pub mod Answers
