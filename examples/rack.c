@@ -1,8 +1,9 @@
 /*
  * A rack's stamp, in C: a GPS week and second become a count, the count becomes UTC by the built-in table and by one
  * that the rack keeps itself, and the UTC count becomes a civil date and time. The second that was inserted at the end
- * of 2016 shows that one UTC count can name two instants. A refusal tells an operator which field to type again. From
- * the expiry of the rack's table on, the rack lights a lamp and goes on stamping.
+ * of 2016 shows that one UTC count can name two instants; the civil reading 23:59:60 names that second alone. A refusal
+ * tells an operator which field to type again. From the expiry of the rack's table on, the rack lights a lamp and goes
+ * on stamping.
  *
  * ./test compiles it with include/plaitgate.h, links the library and compares what it writes with rack.out.
  */
@@ -27,6 +28,20 @@ static void stamp(uint64_t gps)
     plaitgate_civil_from_utc_nanos(utc, &year, &month, &day, &hour, &minute, &second, &nanos);
     plaitgate_builtin_utc_to_gps(utc, &back);
     printf("GPS %" PRIu64 " is %04" PRId32 "-%02u-%02uT%02u:%02u:%02u.%09" PRIu32 "Z, first of GPS %" PRIu64 "\n",
+           gps, year, month, day, hour, minute, second, nanos, back);
+}
+
+/* The civil reading, in which an inserted second is 23:59:60, and the count that it is read back to. */
+static void read_and_read_back(uint64_t gps)
+{
+    uint64_t back;
+    int32_t year;
+    uint8_t month, day, hour, minute, second;
+    uint32_t nanos;
+
+    plaitgate_builtin_gps_to_civil(gps, &year, &month, &day, &hour, &minute, &second, &nanos);
+    plaitgate_builtin_civil_to_gps(year, month, day, hour, minute, second, nanos, &back);
+    printf("GPS %" PRIu64 " reads %04" PRId32 "-%02u-%02uT%02u:%02u:%02u.%09" PRIu32 "Z, which is GPS %" PRIu64 "\n",
            gps, year, month, day, hour, minute, second, nanos, back);
 }
 
@@ -63,7 +78,7 @@ static void stamp_by_table(uint64_t gps, const uint8_t *table, size_t table_byte
 int main(void)
 {
     uint8_t table[PLAITGATE_IMAGE_BYTES], before[PLAITGATE_IMAGE_BYTES];
-    uint64_t gps, threshold, expiry, length;
+    uint64_t gps, back, threshold, expiry, length;
     int32_t offset;
     uint8_t stale;
 
@@ -73,6 +88,12 @@ int main(void)
     stamp(gps + UINT64_C(1000000000));
     stamp(gps + UINT64_C(2000000000));
     stamp(UINT64_MAX);
+
+    /* the inserted second and the one after it, each with a reading of its own */
+    read_and_read_back(gps + UINT64_C(1000000000));
+    read_and_read_back(gps + UINT64_C(2000000000));
+    printf("2016-12-30T23:59:60: refused %" PRIu32 "\n",
+           plaitgate_builtin_civil_to_gps(2016, 12, 30, 23, 59, 60, 0, &back));
 
     keyed_in(1930, 604800, 1000000000);
     keyed_in(1930, 18, 1000000000);

@@ -56,7 +56,11 @@ enum plaitgate_refusal {
     /* nanoseconds of 1000000000 or more in a second */
     PLAITGATE_INVALID_NANOS = 11,
     /* a leap-seconds.list that is too long, has a malformed line, or no line with the offset 19 */
-    PLAITGATE_BAD_LIST = 12
+    PLAITGATE_BAD_LIST = 12,
+    /* a table to read civil times by is not regular, or an entry after its first does not begin a day */
+    PLAITGATE_NOT_ON_DAYS = 13,
+    /* fields with second 60 that are the civil reading of no GPS count */
+    PLAITGATE_NO_INSERTED_SECOND = 14
 };
 
 /* every scale, by tools/write-scales */
@@ -681,6 +685,38 @@ uint32_t plaitgate_table_gps_from_unix_seconds(int64_t seconds, const uint8_t *i
    plaitgate_table_gps_to_utc. Refuses as plaitgate_table_gps_to_utc. */
 uint32_t plaitgate_table_gps_as_unix_seconds(uint64_t gps, const uint8_t *image, size_t image_bytes, int64_t *seconds,
                                              uint8_t *stale);
+
+/* ---- Civil readings with 23:59:60 ---- */
+
+/*
+ * In a civil reading an inserted second is 23:59:60 of the day that it ends, with its nanoseconds, so that no two GPS
+ * counts have the same reading, and a later count has a later one. The days begin with 1980-01-06 at GPS 0. A day has
+ * 86401 s where the TAI count 86401 s after its beginning is the threshold of an entry after the first, and else 86400 s.
+ * A table must be regular (it begins (0, 19), and each threshold after the first is at least 86400 s above the one
+ * before), and each threshold after the first, less its offset in seconds, must be a multiple of 86400 s. The built-in
+ * table is such a table.
+ */
+
+/* The date and the time of day of a GPS count by the built-in table. Refuses as plaitgate_builtin_gps_to_utc. */
+uint32_t plaitgate_builtin_gps_to_civil(uint64_t gps, int32_t *year, uint8_t *month, uint8_t *day, uint8_t *hour,
+                                        uint8_t *minute, uint8_t *second, uint32_t *nanos);
+
+/* The GPS count of a date and a time of day by the built-in table. Where second is 60, it is the count whose reading is
+   these fields; refuses with 14 where there is none. Else no field is checked: it is the GPS count of the UTC count that
+   plaitgate_civil_to_utc_nanos gives, the later where there are two; refuses as that call, then with 1 before
+   1980-01-06. */
+uint32_t plaitgate_builtin_civil_to_gps(int32_t year, uint8_t month, uint8_t day, uint8_t hour, uint8_t minute,
+                                        uint8_t second, uint32_t nanos, uint64_t *gps);
+
+/* The same two by the table in an image. `stale`: whether the table has expired at the TAI count of the GPS count, which
+   is 19 s more. Each refuses with 8 first where the image holds no valid table, then with 13 where the table cannot be
+   read by. */
+uint32_t plaitgate_table_gps_to_civil(uint64_t gps, const uint8_t *image, size_t image_bytes, int32_t *year,
+                                      uint8_t *month, uint8_t *day, uint8_t *hour, uint8_t *minute, uint8_t *second,
+                                      uint32_t *nanos, uint8_t *stale);
+uint32_t plaitgate_table_civil_to_gps(int32_t year, uint8_t month, uint8_t day, uint8_t hour, uint8_t minute,
+                                      uint8_t second, uint32_t nanos, const uint8_t *image, size_t image_bytes,
+                                      uint64_t *gps, uint8_t *stale);
 
 /* shifted scales, by tools/write-scales */
 

@@ -23,6 +23,7 @@ pub mod UtcUnix
 pub mod Durations
 pub mod CivilDates
 pub mod CivilTimes
+pub mod CivilReadings
 pub mod ByBuiltin
 pub mod ByTable
 pub mod LeapTables

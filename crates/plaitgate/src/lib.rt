@@ -22,6 +22,7 @@ pub mod galileo_conversions;
 pub mod by_builtin;
 pub mod by_table;
 pub mod civil_dates;
+pub mod civil_readings;
 pub mod civil_times;
 pub mod durations;
 pub mod galileo_beidou;

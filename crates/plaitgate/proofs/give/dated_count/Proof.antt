@@ -14,7 +14,13 @@ returns c =
     gives-same (datedAs 0 0) (ap (λ (r : CountAnswer). withStale (countIn r, stale)) (sym (given .1)))
     (refl, λ i. datedAs (given .0 .0) (c .byte .ensures i))
 
+returns-2 : call.Tie.Need-returns-2
+returns-2 c =
+    let stale = c .before .before .before .before .args .found .stale in
+    gives-same (datedAs 0 0) (ap (λ (r : CountAnswer). withStale (countIn r, stale)) (sym (c .before .before .answer2 .given .1)))
+    (c .number .ensures, refl)
+
 pub dated-count-spec : {M : Type 1} → call.Statement.statement M
 dated-count-spec =
     call.Tie.close
-    (call.Tie.spec (search needs) (search needs) (search needs) (search needs) returns (λ c. search needs))
+    (call.Tie.spec (search needs) (search needs) (search needs) (search needs) returns returns-2)
