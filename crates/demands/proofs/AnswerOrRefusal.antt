@@ -1,28 +1,34 @@
 -- What a conversion between UTC and GPS, or a scale at a fixed difference, gives is a count or one of the refusals, so what holds of these holds of it.
+-- The same of a civil reading and of what fields go back to.
 use mathlib.Core.Bool.{Bool, true, false, cond, _&&_}
 use mathlib.Core.List.{List}
-use Prim.Native.Nat.{ℕ, _+_, _^_}
-use lib.Dec.{ltb, leb}
-use lib.IntN.{ℤ, pos, negsuc, _+ℤ_, _-ℤ_}
-use lib.Signed.{ltZ}
+use Prim.Native.Nat.{ℕ, _+_, _*_, _^_}
+use lib.Dec.{ltb, leb, eqb}
+use lib.IntN.{ℤ, pos, negsuc, natAbs, _+ℤ_, _-ℤ_}
+use lib.Signed.{nonNeg, ltZ}
 use Rattle.refusals.specs.Number.{numberOf}
-use Rattle.refusals.specs.Outcome.{Outcome, answered, refused, then}
+use Rattle.refusals.specs.Outcome.{Outcome, answered, refused, valueIn, then, changed}
 use Rattle.refusals.specs.declared.Refusal.{Refusal}
-use Rattle.refusals.specs.declared.Refusal.the-variants.{Overflow, BadTable, OffsetRange}
+use Rattle.refusals.specs.declared.Refusal.the-variants.{Overflow, BadTable, OffsetRange, NotOnDays, NoInsertedSecond}
 use Rattle.refusals.proofs.Given.{Numbered}
 use Rattle.refusals.proofs.Tells.{number-not-zero}
 use Rattle.counts.specs.Exact.{countOf, up, down}
 use Rattle.counts.specs.Units.{second}
 use Rattle.scales.specs.Scales.{taiMinusGps}
-use Rattle.tables.specs.Entries.{Entry, offsetAt, regular}
+use Rattle.calendar.specs.Formula.{dayOf}
+use Rattle.calendar.specs.Dates.{utcEpochDay}
+use Rattle.civil.specs.Fields.{dateIn, timeOf, countAt}
+use Rattle.civil.specs.declared.CivilDateTime.{CivilDateTime}
+use Rattle.tables.specs.Entries.{Entry, offsetAt, regular, day, onDays}
 use Rattle.tables.specs.Slots.{entriesOf, validTable}
 use Rattle.images.specs.Image.{sized, tableIn, byImage}
 use Rattle.conversions.specs.Conversions.{E, inNanos, inRange, utcAtOffset, lastReading, gpsToUtc, utcToGps}
 use Rattle.conversions.specs.Shifted.{sameAnswer, laterOf, shiftedToUtc, utcToShifted}
+use Rattle.readings.specs.Readings.{readingOf, gpsToCivil, sameFields, utcToLater, readSo, civilToGps}
 
-module _ (P : Outcome ℕ → Type 0) where
+module _ {A : Type 0} (P : Outcome A → Type 0) where
   -- whichever of the two a test takes
-  either : (b : Bool) (x y : Outcome ℕ) → P x → P y → P (cond b x y)
+  either : (b : Bool) (x y : Outcome A) → P x → P y → P (cond b x y)
   either true x y p q = p
   either false x y p q = q
 
@@ -46,6 +52,58 @@ module _ (P : Outcome ℕ → Type 0) (of-count : (n : ℕ) → P (answered n))
   to-gps es u =
       let n = offsetAt es (lastReading es u) in
       at-offset n (pos u -ℤ pos E +ℤ inNanos (n -ℤ pos 19))
+
+  -- fields that go back
+  pub civil-to-gps : (es : List Entry) (c : CivilDateTime) → P (civilToGps es c)
+  civil-to-gps es c =
+      either P (onDays es) (cond sixty so other) (refused 13)
+      (either P sixty so other (read (then (countAt c) (utcToGps es)))
+      (either (λ o. P (then o (utcToLater es))) (nonNeg z) (countOf (pos n)) (refused 1)
+      (either (λ o. P (then o (utcToLater es))) (ltb n (2 ^ 64)) (answered n) (refused 1) (later n) (of-refusal Overflow))
+      (of-refusal Overflow)))
+      (of-refusal NotOnDays)
+    where
+      z : ℤ
+      z = dayOf (dateIn c) -ℤ pos utcEpochDay
+
+      n : ℕ
+      n = natAbs z * day + timeOf c
+
+      sixty : Bool
+      sixty = eqb (c .second) 60
+
+      so : Outcome ℕ
+      so = readSo es c (then (countAt c) (utcToGps es))
+
+      other : Outcome ℕ
+      other = then (countAt c) (utcToLater es)
+
+      read : (o : Outcome ℕ) → P (readSo es c o)
+      read (answered g) =
+          either P (sameFields (readingOf es g) c) (answered g) (refused 14) (of-count g) (of-refusal NoInsertedSecond)
+      read (refused k) = of-refusal NoInsertedSecond
+
+      later : (u : ℕ) → P (utcToLater es u)
+      later u = go (utcToGps es u) (to-gps es u)
+        where
+          go : (o : Outcome ℕ) → P o → P (changed (λ (g : ℕ). valueIn g (laterOf es g)) o)
+          go (answered g) p = of-count (valueIn g (laterOf es g))
+          go (refused k) p = p
+
+-- a reading
+module _ (P : Outcome CivilDateTime → Type 0) (of-fields : (c : CivilDateTime) → P (answered c))
+    (of-refusal : (w : Refusal) → P (refused (numberOf w))) where
+  pub gps-to-civil : (es : List Entry) (g : ℕ) → P (gpsToCivil es g)
+  gps-to-civil es g =
+      let read : Outcome ℕ → Outcome CivilDateTime = changed (λ (u : ℕ). readingOf es g) in
+      either P (onDays es) (read (gpsToUtc es g)) (refused 13)
+      (to-utc (λ o. P (read o)) (λ n. of-fields (readingOf es g)) of-refusal es g) (of-refusal NotOnDays)
+
+pub gps-to-civil-numbered : (es : List Entry) (g : ℕ) → Numbered (gpsToCivil es g)
+gps-to-civil-numbered = gps-to-civil Numbered (λ c. tt) number-not-zero
+
+pub civil-to-gps-numbered : (es : List Entry) (c : CivilDateTime) → Numbered (civilToGps es c)
+civil-to-gps-numbered = civil-to-gps Numbered (λ n. tt) number-not-zero
 
 pub to-utc-numbered : (es : List Entry) (g : ℕ) → Numbered (gpsToUtc es g)
 to-utc-numbered = to-utc Numbered (λ n. tt) number-not-zero
@@ -79,9 +137,9 @@ utc-to-shifted-numbered d es u =
     taken : ℕ → Outcome ℕ
     taken g = cond (leb d g) (answered g) (laterOf es g)
 
-pub by-image-numbered : (b : List ℕ) (answer : List Entry → Outcome ℕ) → ((es : List Entry) → Numbered (answer es))
-    → Numbered (byImage b answer)
-by-image-numbered b answer n = or-8 (sized b) _ (or-8 (validTable (tableIn b)) _ (n (entriesOf (tableIn b))))
+pub by-image-numbered : {A : Type 0} (b : List ℕ) (answer : List Entry → Outcome A)
+    → ((es : List Entry) → Numbered (answer es)) → Numbered (byImage b answer)
+by-image-numbered {A} b answer n = or-8 (sized b) _ (or-8 (validTable (tableIn b)) _ (n (entriesOf (tableIn b))))
   where
-    or-8 : (test : Bool) (o : Outcome ℕ) → Numbered o → Numbered (cond test o (refused 8))
+    or-8 : (test : Bool) (o : Outcome A) → Numbered o → Numbered (cond test o (refused 8))
     or-8 test o n = either Numbered test o (refused 8) n (number-not-zero BadTable)

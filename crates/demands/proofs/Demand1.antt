@@ -3,6 +3,7 @@ pub mod EveryScale
 pub mod Weeks
 pub mod Scales
 pub mod CivilTimes
+pub mod CivilReadings
 pub mod Conversions
 pub mod Shifted
 pub mod ReadTables

@@ -29,7 +29,7 @@ use Rattle.builtin.proofs.Regular.{builtin-regular}
 use Rattle.demands.specs.TwoInstants.{TwoInstants}
 use Rattle.demands.specs.OfCalls.{Allows, TwoInstantsOf, Regular, Demand3}
 use Rattle.demands.proofs.AnswerOrRefusal.{to-utc-numbered, to-gps-numbered, by-image-numbered}
-use Rattle.demands.proofs.LeapSeconds.{leaps, counted}
+use Rattle.conversions.proofs.LeapSeconds.{leaps, counted}
 use Rattle.demands.proofs.SameAnswers.{kept}
 use Rattle.demands.proofs.WayBack.{two-instants}
 
@@ -44,11 +44,11 @@ module _ (es : List Entry) (lead : ℕ) {f g : ℕ → Outcome ℕ} (t : TwoInst
 
 module _ {Lifetimes : Type 0} {Arguments Answer End : Lifetimes → Type 0}
     {Contract : (κ : Lifetimes) → Arguments κ → Answer κ → End κ → Type 0}
-    {Asks : (κ : Lifetimes) → Arguments κ → Type 0} {tells : (κ : Lifetimes) → Answer κ → End κ → Outcome ℕ} where
+    {Asks : (κ : Lifetimes) → Arguments κ → Type 0} {A : Type 0} {tells : (κ : Lifetimes) → Answer κ → End κ → Outcome A} where
   -- a contract that says d of an input allows nothing else
-  pub allowed : (d : Outcome ℕ)
+  pub allowed : (d : Outcome A)
       → ((κ : Lifetimes) (a : Arguments κ) (r : Answer κ) (e : End κ) → Asks κ a → Contract κ a r e → tells κ r e ≡ d)
-      → (o : Outcome ℕ) → Allows Contract Asks tells o → o ≡ d
+      → (o : Outcome A) → Allows Contract Asks tells o → o ≡ d
   allowed d says o (κ, a, r, e, asks, holds, tells) = sym tells ∙ says κ a r e asks holds
 
 -- the same by a regular table, which is valid: no 8 comes first
@@ -66,33 +66,35 @@ module _ (t : LeapTable) (r : Regular t) (lead : ℕ) {f g : ℕ → Outcome ℕ
       (λ u o a. from u o a ∙ sym (good t _ (regular-valid t r)))
 
 -- what a call by a table answers, whatever it tells of the expiry
-pub by-table : (t : LeapTable) (tai : ℕ) (o : Outcome ℕ) {x : Outcome ℕ × Bool} → x ≡ byTable t tai o → x .0 ≡ ofValid t o
+pub by-table : {A : Type 0} (t : LeapTable) (tai : ℕ) (o : Outcome A) {x : Outcome A × Bool} → x ≡ byTable t tai o
+    → x .0 ≡ ofValid t o
 by-table t tai o = answer-is (staleAt (t .expiry) tai) (ofValid t o)
 
-pub by-bytes : (b : List ℕ) (tai : List Entry → ℕ) (answer : List Entry → Outcome ℕ) {x : Outcome ℕ × Bool}
+pub by-bytes : {A : Type 0} (b : List ℕ) (tai : List Entry → ℕ) (answer : List Entry → Outcome A) {x : Outcome A × Bool}
     → x ≡ datedByImage b tai answer → x .0 ≡ byImage b answer
 by-bytes b tai answer = answer-is (staleAt (tableIn b .expiry) (tai (entriesOf (tableIn b)))) (byImage b answer)
 
 -- what a host is given of it
-count-given : (x : Outcome ℕ × Bool) {k v s : ℕ} → Gives (datedAs 0 0) (withStale x) k (datedAs v s) → Gives 0 (x .0) k v
-count-given (answered a, stale) (number, value) = (number, ap (λ (d : Dated ℕ). d .value) value)
-count-given (refused j, stale) (number, value) = (number, ap (λ (d : Dated ℕ). d .value) value)
+value-given : {A : Type 0} (zeros : A) (x : Outcome A × Bool) {k s : ℕ} {v : A}
+    → Gives (datedAs zeros 0) (withStale x) k (datedAs v s) → Gives zeros (x .0) k v
+value-given {A} zeros (answered a, stale) (number, value) = (number, ap (λ (d : Dated A). d .value) value)
+value-given {A} zeros (refused j, stale) (number, value) = (number, ap (λ (d : Dated A). d .value) value)
 
 -- what the table in an image b answers for n
-module _ (convert : List Entry → ℕ → Outcome ℕ) {b : List ℕ} (size : length b ≡ imageBytes) {n : ℕ} where
-  pub of-image : {b′ : List ℕ} {m : ℕ} → (m ≡ n) × (b′ ≡ b)
+module _ {A B : Type 0} (convert : List Entry → B → Outcome A) {b : List ℕ} (size : length b ≡ imageBytes) {n : B} where
+  pub of-image : {b′ : List ℕ} {m : B} → (m ≡ n) × (b′ ≡ b)
       → byImage b′ (λ es. convert es m) ≡ ofValid (tableIn b) (convert (entriesOf (tableIn b)) n)
   of-image (p, q) = (λ i. byImage (q i) (λ es. convert es (p i))) ∙ sym (of-size b _ _ size)
 
   -- a host reads it off the number and the value
-  pub as-told : (tai : List Entry → ℕ → ℕ) → ((es : List Entry) (m : ℕ) → Numbered (convert es m))
-      → {b′ : List ℕ} {m k v s : ℕ} → (m ≡ n) × (b′ ≡ b)
-      → Gives (datedAs 0 0) (withStale (datedByImage b′ (λ es. tai es m) (λ es. convert es m))) k (datedAs v s)
+  pub as-told : (zeros : A) (tai : List Entry → B → ℕ) → ((es : List Entry) (m : B) → Numbered (convert es m))
+      → {b′ : List ℕ} {m : B} {k s : ℕ} {v : A} → (m ≡ n) × (b′ ≡ b)
+      → Gives (datedAs zeros 0) (withStale (datedByImage b′ (λ es. tai es m) (λ es. convert es m))) k (datedAs v s)
       → unless k v ≡ ofValid (tableIn b) (convert (entriesOf (tableIn b)) n)
-  as-told tai numbered {b′} {m} asked p =
+  as-told zeros tai numbered {b′} {m} asked p =
       let whole = datedByImage b′ (λ es. tai es m) (λ es. convert es m) in
-      let given = gives-same 0 (by-bytes b′ (λ es. tai es m) (λ es. convert es m) refl) (count-given whole p) in
-      told-is 0 _ (by-image-numbered b′ (λ es. convert es m) (λ es. numbered es m)) given ∙ of-image asked
+      let given = gives-same zeros (by-bytes b′ (λ es. tai es m) (λ es. convert es m) refl) (value-given zeros whole p) in
+      told-is zeros _ (by-image-numbered b′ (λ es. convert es m) (λ es. numbered es m)) given ∙ of-image asked
 
 pub demand-3 : Demand3
 demand-3 = record {
@@ -120,8 +122,8 @@ demand-3 = record {
       (λ u. allowed _ (λ κ a r e q p. p ∙ ap (utcToGps builtin) q));
   exported = λ b size r.
       of-table (tableIn b) r taiMinusGps (by-regular-lists (entriesOf (tableIn b)) (r .1))
-      (λ g. allowed _ (λ κ a k e q p. as-told gpsToUtc size (λ es g. g + taiMinusGps) to-utc-numbered q p))
-      (λ u. allowed _ (λ κ a k e q p. as-told utcToGps size lastReading to-gps-numbered q p));
+      (λ g. allowed _ (λ κ a k e q p. as-told gpsToUtc size 0 (λ es g. g + taiMinusGps) to-utc-numbered q p))
+      (λ u. allowed _ (λ κ a k e q p. as-told utcToGps size 0 lastReading to-gps-numbered q p));
   exported-built-in =
       of-pair builtin taiMinusGps (by-regular-lists builtin builtin-regular)
       (λ g. allowed _ (λ κ a k e q p. told-is 0 _ (to-utc-numbered builtin (a .0)) p ∙ ap (gpsToUtc builtin) q))

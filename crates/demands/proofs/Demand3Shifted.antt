@@ -55,9 +55,9 @@ demand-3-shifted = record {
       of-table (tableIn b) r (taiMinusGps + gpsMinusGalileo)
       (shifted-instants (entriesOf (tableIn b)) (r .1) gpsMinusGalileo)
       (λ n. allowed _ (λ κ a k e q p.
-      as-told (shiftedToUtc gpsMinusGalileo) size (λ es n. n + gpsMinusGalileo + taiMinusGps) (shifted-to-utc-numbered gpsMinusGalileo) q p))
+      as-told (shiftedToUtc gpsMinusGalileo) size 0 (λ es n. n + gpsMinusGalileo + taiMinusGps) (shifted-to-utc-numbered gpsMinusGalileo) q p))
       (λ u. allowed _ (λ κ a k e q p.
-      as-told (utcToShifted gpsMinusGalileo) size (shiftedReading gpsMinusGalileo) (utc-to-shifted-numbered gpsMinusGalileo) q p));
+      as-told (utcToShifted gpsMinusGalileo) size 0 (shiftedReading gpsMinusGalileo) (utc-to-shifted-numbered gpsMinusGalileo) q p));
   galileo-exported-built-in =
       of-pair builtin (taiMinusGps + gpsMinusGalileo) (shifted-instants builtin builtin-regular gpsMinusGalileo)
       (λ n. allowed _ (λ κ a k e q p.
@@ -84,9 +84,9 @@ demand-3-shifted = record {
       of-table (tableIn b) r (taiMinusGps + gpsMinusBeidou)
       (shifted-instants (entriesOf (tableIn b)) (r .1) gpsMinusBeidou)
       (λ n. allowed _ (λ κ a k e q p.
-      as-told (shiftedToUtc gpsMinusBeidou) size (λ es n. n + gpsMinusBeidou + taiMinusGps) (shifted-to-utc-numbered gpsMinusBeidou) q p))
+      as-told (shiftedToUtc gpsMinusBeidou) size 0 (λ es n. n + gpsMinusBeidou + taiMinusGps) (shifted-to-utc-numbered gpsMinusBeidou) q p))
       (λ u. allowed _ (λ κ a k e q p.
-      as-told (utcToShifted gpsMinusBeidou) size (shiftedReading gpsMinusBeidou) (utc-to-shifted-numbered gpsMinusBeidou) q p));
+      as-told (utcToShifted gpsMinusBeidou) size 0 (shiftedReading gpsMinusBeidou) (utc-to-shifted-numbered gpsMinusBeidou) q p));
   beidou-exported-built-in =
       of-pair builtin (taiMinusGps + gpsMinusBeidou) (shifted-instants builtin builtin-regular gpsMinusBeidou)
       (λ n. allowed _ (λ κ a k e q p.

@@ -12,7 +12,7 @@ use Rattle.counts.proofs.Difference.{not-below, of-naturals}
 use Rattle.counts.proofs.Fitting.{is-count}
 use Rattle.tables.specs.Entries.{Entry}
 use Rattle.demands.specs.TwoInstants.{Converts, InFirstSecond, TwoInstants}
-use Rattle.demands.proofs.OnNaturals.{went-on}
+use Rattle.conversions.proofs.OnNaturals.{went-on}
 
 module _ (es : List Entry) (lead d : ℕ) {there back : ℕ → Outcome ℕ} (t : TwoInstants es lead d there back) where
   -- n converts exactly if n + d does in the other scale

@@ -13,7 +13,7 @@ use Rattle.calendar.proofs.RealDates.{real}
 use Rattle.calendar.proofs.CalendarTheorems.{date-of-day}
 use Rattle.civil.specs.Fields.{fields, fieldsOf}
 use Rattle.scales.specs.Scales.{gpsMinusBeidou}
-use Rattle.tables.specs.Entries.{Entry, entry, neighbours, lastUpTo, lookup}
+use Rattle.tables.specs.Entries.{Entry, entry, neighbours, inForce, lookup}
 use Rattle.conversions.specs.Conversions.{gpsToUtc, utcToGps}
 use Rattle.conversions.specs.Shifted.{utcToShifted}
 use Rattle.builtin.specs.Builtin.{builtin, events, thresholdOf, entriesFrom}
@@ -71,15 +71,15 @@ unfolding formula era yoe doy doe daysIn
 first-of-2017 = date-of-day (on (pos 2017) 1 1) (real (on (pos 2017) 1 1) tt)
 
 pub end-of-2016 : Every endOf2016
-unfolding builtin events thresholdOf entriesFrom formula era yoe doy doe lastUpTo lookup
+unfolding builtin events thresholdOf entriesFrom formula era yoe doy doe inForce lookup
 end-of-2016 =
     refl also refl also refl also refl also refl also refl also refl also ap (at 0 0 0 0) first-of-2017 also none-left
 
 pub end-of-2005 : Every endOf2005
-unfolding builtin events thresholdOf entriesFrom formula era yoe doy doe neighbours lastUpTo lookup
+unfolding builtin events thresholdOf entriesFrom formula era yoe doy doe neighbours inForce lookup
 end-of-2005 =
     refl also refl also refl also refl also refl also refl also refl also refl also refl also refl also none-left
 
 pub too-close : Every tooClose
-unfolding lastUpTo lookup
+unfolding inForce lookup
 too-close = refl also refl also refl also refl also refl also none-left

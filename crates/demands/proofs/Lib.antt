@@ -1,8 +1,7 @@
-mod LeapSeconds
-mod OnNaturals
 mod WayBack
 mod SameAnswers
 mod AnswerOrRefusal
+mod SameReadings
 pub mod FixedDifference
 pub mod Shifted
 pub mod Demand1
@@ -12,3 +11,5 @@ pub mod EveryExample
 pub mod InsertedSecond
 pub mod Pinned
 pub mod Stale
+pub mod CivilReadings
+pub mod ReadingCalls

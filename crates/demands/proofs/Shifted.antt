@@ -21,7 +21,7 @@ use Rattle.conversions.specs.Shifted.{sameAnswer, laterOf, shiftedToUtc, utcToS
 use Rattle.demands.specs.TwoInstants.{Converts, TwoInstants}
 use Rattle.demands.proofs.Demand3.{by-regular-lists}
 use Rattle.demands.proofs.FixedDifference.{counts-less}
-use Rattle.demands.proofs.OnNaturals.{went-on}
+use Rattle.conversions.proofs.OnNaturals.{went-on}
 use Rattle.demands.proofs.SameAnswers.{kept}
 
 -- what a test of an outcome tells

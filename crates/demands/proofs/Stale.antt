@@ -10,7 +10,7 @@ use Rattle.refusals.specs.Outcome.{Outcome, answered, refused}
 use Rattle.refusals.proofs.Given.{no-refusal}
 use Rattle.counts.specs.Units.{second}
 use Rattle.scales.specs.Scales.{taiMinusGps}
-use Rattle.tables.specs.Entries.{Entry, neighbours, lookup, lastUpTo}
+use Rattle.tables.specs.Entries.{Entry, neighbours, lookup, inForce}
 use Rattle.tables.specs.Slots.{paired, entriesOf, ofValid}
 use Rattle.tables.specs.Expiry.{staleAt, dated}
 use Rattle.tables.specs.declared.LeapTable.{LeapTable}
@@ -22,8 +22,8 @@ use Rattle.conversions.proofs.SinceEpoch.{since}
 use Rattle.demands.specs.OfCalls.{Regular}
 use Rattle.demands.specs.Stale.{byUtc, Stale}
 use Rattle.demands.proofs.Demand3.{regular-valid}
-use Rattle.demands.proofs.LeapSeconds.{LeapSeconds, leaps, counted}
-use Rattle.demands.proofs.OnNaturals.{a, b, before-E, from-E}
+use Rattle.conversions.proofs.LeapSeconds.{LeapSeconds, leaps, counted, in-force}
+use Rattle.conversions.proofs.OnNaturals.{a, b, before-E, from-E}
 
 -- yes is said of an answer
 said-answered : {A : Type 0} (stale : Bool) (o : Outcome A) → dated stale o .1 ≡ true → (x : A) × (o ≡ answered x)
@@ -46,7 +46,7 @@ module _ (es : List Entry) (k : ℕ → ℕ) (f : LeapSeconds es k) where
       = since 0 u (19 * second) (omega arith) (omega arith) ∙ omega arith in
       let next : secondReading u (pos (19 + k (a es k f u))) (a es k f u) ≡ b es k f u
       = since (a es k f u) u ((19 + k (a es k f u)) * second) (omega arith) (omega arith) ∙ omega arith in
-      rw (first, f .in-force (a es k f u), next)
+      rw (first, in-force f (a es k f u), next)
 
   -- it never goes back
   last-rises : (u v : ℕ) → E ≤ u → u ≤ v → v < 2 ^ 64 → lastReading es u ≤ lastReading es v
@@ -76,7 +76,7 @@ utc-stays t r u v l m y =
         (sym (good t (utcToGps es v) (regular-valid t r)) ∙ from-E es k f v (omega arith) m) y
 
 pub stale : Stale
-unfolding neighbours lookup lastUpTo paired
+unfolding neighbours lookup inForce paired
 stale = record {
   same-answer = λ t x tai answer.
       answer-kept (staleAt x (tai (entriesOf t))) (ofValid t (answer (entriesOf t)))

@@ -1,6 +1,6 @@
--- The way back over a regular list: a third lookup would find what the second found, so the answer is the earliest
--- count; and two counts that share a UTC count have one threshold between them, so they are one second apart.
-use mathlib.Core.Path.{_≡_, ap, subst}
+-- The way back over a regular list: the answer is the earliest count, since each lookup finds no more than a later one;
+-- and two counts that share a UTC count have one threshold between them, so they are one second apart.
+use mathlib.Core.Path.{_≡_, subst}
 use mathlib.Core.Logic.{_≢_}
 use mathlib.Core.List.{List}
 use Prim.Native.Nat.{ℕ, _+_, _*_, _-_, _^_, _≤_, _<_}
@@ -11,12 +11,12 @@ use Rattle.refusals.specs.Outcome.{answered, refused}
 use Rattle.refusals.proofs.Given.{one-answer, no-refusal}
 use Rattle.counts.specs.Units.{second}
 use Rattle.scales.specs.Scales.{taiMinusGps}
-use Rattle.tables.specs.Entries.{Entry, day}
+use Rattle.tables.specs.Entries.{Entry}
 use Rattle.conversions.specs.Conversions.{E, gpsToUtc, utcToGps}
 use Rattle.demands.specs.TwoInstants.{Converts, TwoInstants}
 use Rattle.tables.proofs.Reached.{Between}
-use Rattle.demands.proofs.LeapSeconds.{LeapSeconds}
-use Rattle.demands.proofs.OnNaturals.{tai, Reads, to-utc, from-gps, before-E, from-E, a, b}
+use Rattle.conversions.proofs.LeapSeconds.{LeapSeconds}
+use Rattle.conversions.proofs.OnNaturals.{tai, Reads, to-utc, from-gps, before-E, not-before-E, from-E, comes-back, apart, a, b}
 
 -- how far two numbers lie apart
 abbrev distance : ℕ → ℕ → ℕ
@@ -33,14 +33,6 @@ module _ (es : List Entry) (k : ℕ → ℕ) (f : LeapSeconds es k) where
   reads : {g u : ℕ} → There g u → Reads es k f g u
   reads {g} {u} c = from-gps es k f g u (c .2)
 
-  -- no count converts to a UTC count before E
-  not-before-E : (g u : ℕ) → There g u → E ≤ u
-  not-before-E g u c = go (decLt (tai g) day)
-    where
-      go : Dec (tai g < day) → E ≤ u
-      go (yes h) = omega (arith, reads c .exact, f .none-on-the-first-day (tai g) h)
-      go (no h) = omega (arith, reads c .exact, f .few (tai g), h)
-
   -- what the way back answers from E on: the first reading and the leap seconds up to the second
   module _ (u : ℕ) (l : E ≤ u) (m : u < 2 ^ 64) where
     abbrev first : ℕ
@@ -52,22 +44,11 @@ module _ (es : List Entry) (k : ℕ → ℕ) (f : LeapSeconds es k) where
     abbrev back : ℕ
     back = u - E + k next * second
 
-    -- a third reading would find no more leap seconds
-    settled : k (tai back) ≡ k next
-    settled = go (decLe (k next) (k first)) (f .few next) (f .rises first next (omega arith))
-      where
-        go : Dec (k next ≤ k first) → k next ≤ 63 → k first ≤ k next → k (tai back) ≡ k next
-        go (yes h) few up = ap k (omega arith)
-        go (no h) few up =
-            omega (arith, h, f .rises next (tai back) (omega arith), f .one-in-a-day first (tai back) (omega arith))
-
     -- it converts to u
-    comes-back : There back u
-    comes-back =
-        let few = f .few next in
-        let read : Reads es k f back u =
-        record { tai-fits = omega arith; utc-fits = m; exact = omega (arith, settled) } in
-        (omega arith, omega arith, to-utc es k f back u read)
+    comes-there : There back u
+    comes-there =
+        let r = comes-back es k f u back m (from-E es k f u l m) in
+        (omega arith, omega (arith, r .tai-fits), to-utc es k f back u r)
 
     -- and no earlier count does
     first-of-all : (g : ℕ) → There g u → back ≤ g
@@ -80,7 +61,7 @@ module _ (es : List Entry) (k : ℕ → ℕ) (f : LeapSeconds es k) where
 
   -- where nothing converts, the count is before E
   refused-else : (u : ℕ) → u < 2 ^ 64 → ((g : ℕ) → There g u → ⊥) → Dec (E ≤ u) → (n : ℕ) × (utcToGps es u ≡ refused n)
-  refused-else u m none (yes h) = absurd (none (back u h m) (comes-back u h m))
+  refused-else u m none (yes h) = absurd (none (back u h m) (comes-there u h m))
   refused-else u m none (no h) = (1, before-E es k f u (omega (arith, h)))
 
   -- an answer is the one from E on
@@ -91,34 +72,25 @@ module _ (es : List Entry) (k : ℕ → ℕ) (f : LeapSeconds es k) where
       go (yes h) = (h, one-answer (utcToGps es u) (from-E es k f u h m) e)
       go (no h) = absurd (no-refusal (utcToGps es u) e (before-E es k f u (omega (arith, h))))
 
-  -- two that share a UTC count: the later one is a second and a leap second on
-  apart : (g₁ g₂ u : ℕ) → There g₁ u → There g₂ u → g₁ < g₂ → (g₂ ≡ g₁ + second) × (k (tai g₁) < k (tai g₂))
-  apart g₁ g₂ u c₁ c₂ l =
-      let r₁ = reads c₁ .exact in
-      let r₂ = reads c₂ .exact in
-      let few = f .few (tai g₂) in
-      let one = f .one-in-a-day (tai g₁) (tai g₂) (omega arith) in
-      (omega arith, omega arith)
-
   -- whichever of two different counts is the later
   a-second : (g₁ g₂ u : ℕ) → There g₁ u → There g₂ u → g₁ ≢ g₂ → distance g₁ g₂ ≡ second
   a-second g₁ g₂ u c₁ c₂ n = go (decLt g₁ g₂)
     where
       go : Dec (g₁ < g₂) → distance g₁ g₂ ≡ second
-      go (yes h) = omega (arith, apart g₁ g₂ u c₁ c₂ h .0)
-      go (no h) = omega (arith, apart g₂ g₁ u c₂ c₁ (omega (arith, h, n)) .0)
+      go (yes h) = omega (arith, apart es k f g₁ g₂ u (reads c₁) (reads c₂) h .0)
+      go (no h) = omega (arith, apart es k f g₂ g₁ u (reads c₂) (reads c₁) (omega (arith, h, n)) .0)
 
   pub two-instants : TwoInstants es taiMinusGps 0 (gpsToUtc es) (utcToGps es)
   two-instants = record {
     refused-exactly = λ u m. (
-      λ (n, r) g c. no-refusal (utcToGps es u) (from-E es k f u (not-before-E g u c) m) r,
+      λ (n, r) g c. no-refusal (utcToGps es u) (from-E es k f u (not-before-E es k f g u (reads c)) m) r,
       λ none. refused-else u m none (decLe E u),
     );
     the-earliest = λ u g m e g′ c. let (l, is) = answer-is u g m e in omega (arith, is, first-of-all u l m g′ c);
-    converts-back = λ u g m e. let (l, is) = answer-is u g m e in subst (λ (n : ℕ). There n u) is (comes-back u l m);
+    converts-back = λ u g m e. let (l, is) = answer-is u g m e in subst (λ (n : ℕ). There n u) is (comes-there u l m);
     shared-exactly = λ g₁ g₂ u₁ u₂ c₁ c₂ l. (
       λ e.
-          let (d, more) = apart g₁ g₂ u₂ (subst (λ (u : ℕ). There g₁ u) e c₁) c₂ l in
+          let (d, more) = apart es k f g₁ g₂ u₂ (reads (subst (λ (u : ℕ). There g₁ u) e c₁)) (reads c₂) l in
           let i = f .more-by-an-entry (tai g₁) (tai g₂) more in
           (omega arith, (i .entry, i .among, omega (arith, i .by), omega (arith, i .after))),
       λ (d, (e, later, begun, within)).

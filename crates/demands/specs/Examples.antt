@@ -3,19 +3,26 @@ use mathlib.Core.Path.{_≡_}
 use mathlib.Core.Bool.{Bool, true, false}
 use mathlib.Core.List.{List, [], _∷_}
 use Prim.Native.Nat.{ℕ, _+_, _*_}
-use lib.IntN.{pos}
+use lib.IntN.{ℤ, pos}
 use Rattle.refusals.specs.Outcome.{Outcome, answered, refused}
 use Rattle.counts.specs.Exact.{up, down}
 use Rattle.counts.specs.Units.{second, weekSeconds, ofUnits}
 use Rattle.civil.specs.Fields.{fields, fieldsOf, countAt}
-use Rattle.tables.specs.Entries.{Entry, entry, regular}
+use Rattle.tables.specs.Entries.{Entry, entry, regular, lookup}
 use Rattle.tables.specs.Slots.{entriesOf, tableOf, extended}
 use Rattle.tables.specs.Expiry.{byTable, withExpiry}
 use Rattle.tables.specs.declared.LeapTable.{LeapTable}
+use Rattle.tables.specs.declared.Lookup.{Lookup}
+use Rattle.tables.specs.declared.Place.{Place}
+use Rattle.tables.specs.declared.Place.the-variants as place
+use Rattle.tables.specs.declared.Threshold.{Threshold}
+use Rattle.tables.specs.declared.Threshold.the-variants as next
 use Rattle.conversions.specs.Conversions.{glonassEpoch, gpsToUtc, lastReading, utcToGps, glonassToGps}
 use Rattle.conversions.specs.Shifted.{shiftedToUtc, utcToShifted, glonassToShifted}
 use Rattle.scales.specs.Scales.{gpsMinusGalileo, gpsMinusBeidou}
 use Rattle.builtin.specs.Builtin.{builtin}
+use Rattle.readings.specs.Readings.{gpsToCivil, civilToGps}
+use Rattle.demands.specs.CivilReadings.{sixtyBefore}
 use Rattle.demands.specs.Stale.{byGps, byUtc}
 
 infix 68 _is_
@@ -39,6 +46,10 @@ builtinWith e = let (number, table) = extended (tableOf builtin) e in (number, t
 -- an offset of 19 from one threshold on, and 20 from another
 abbrev pub from : ℕ → ℕ → List Entry
 from a b = entry a (pos 19) ∷ entry b (pos 20) ∷ []
+
+-- what a lookup tells: the offset in force, the place of its entry, and the next threshold
+abbrev pub told : ℤ → Place → Threshold → Lookup
+told n at above = record { offset = n; place = at; next = above }
 
 -- the built-in entries with the expiry of the list that says 28 June 2026: NTP second 3,991,593,600
 abbrev pub untilJune : LeapTable
@@ -117,4 +128,24 @@ examples week =
     regular (entry 0 (pos 19) ∷ entry 86_400_000_000_000 (pos 20) ∷ entry 172_800_000_000_000 (pos 21) ∷ []) is true ∷
     regular (entry 0 (pos 19) ∷ entry 86_399_999_999_999 (pos 20) ∷ []) is false ∷
     regular (entry 0 (pos 19) ∷ entry 86_400_000_000_000 (pos 20) ∷ entry 172_799_999_999_999 (pos 21) ∷ []) is false ∷
+    -- a lookup a nanosecond before the last threshold, at it and after it, and by no entry
+    lookup builtin 1_167_264_036_999_999_999 is told (pos 36) (place.At 17) (next.At (1_167_264_037 * second)) ∷
+    lookup builtin (1_167_264_037 * second) is told (pos 37) (place.At 18) next.Nothing ∷
+    lookup builtin (1_167_264_038 * second) is told (pos 37) (place.At 18) next.Nothing ∷
+    lookup [] 0 is told (pos 19) place.Nothing next.Nothing ∷
+    -- the second inserted at the end of June 1981, and the one after it, which has the same UTC count
+    gpsToCivil builtin 46_828_800_999_999_999 is answered (fields (pos 1981) 6 30 23 59 60 999_999_999) ∷
+    gpsToCivil builtin (46_828_801 * second) is answered (fields (pos 1981) 7 1 0 0 0 0) ∷
+    civilToGps builtin (fields (pos 1981) 6 30 23 59 60 999_999_999) is answered 46_828_800_999_999_999 ∷
+    civilToGps builtin (fields (pos 1981) 7 1 0 0 0 0) is answered (46_828_801 * second) ∷
+    -- the second inserted at the end of 2016, by its UTC count and by its GPS count
+    sixtyBefore (1_420_156_800 * second) is fields (pos 2016) 12 31 23 59 60 0 ∷
+    gpsToCivil builtin (1_167_264_017 * second) is answered (fields (pos 2016) 12 31 23 59 60 0) ∷
+    -- none was inserted a day before the end of June 1981, and none that has a GPS count at the end of 1979
+    civilToGps builtin (fields (pos 1981) 6 29 23 59 60 0) is refused 14 ∷
+    civilToGps builtin (fields (pos 1979) 12 31 23 59 60 0) is refused 14 ∷
+    -- by a table whose later entry begins the second day, and by one where it begins a second after that
+    gpsToCivil (from 0 (86_420 * second)) (86_400 * second) is answered (fields (pos 1980) 1 6 23 59 60 0) ∷
+    gpsToCivil (from 0 (86_421 * second)) (86_400 * second) is refused 13 ∷
+    civilToGps (from 0 (86_421 * second)) (fields (pos 1980) 1 6 23 59 60 0) is refused 13 ∷
     []

@@ -2,6 +2,8 @@ pub mod TwoInstants
 pub mod AnswersOf
 pub mod OfCalls
 pub mod OfShifted
+pub mod CivilReadings
+pub mod OfReadings
 pub mod RefusalsLeave
 pub mod Stale
 pub mod Examples

@@ -30,8 +30,8 @@ use Rattle.demands.specs.TwoInstants.{TwoInstants}
 module _ {Lifetimes : Type 0} {Arguments Answer End : Lifetimes → Type 0}
     (Contract : (κ : Lifetimes) → Arguments κ → Answer κ → End κ → Type 0) where
   -- to arguments that ask so, the contract allows an answer that tells o
-  abbrev pub Allows : (Asks : (κ : Lifetimes) → Arguments κ → Type 0)
-      (tells : (κ : Lifetimes) → Answer κ → End κ → Outcome ℕ) → Outcome ℕ → Type 0
+  abbrev pub Allows : {A : Type 0} (Asks : (κ : Lifetimes) → Arguments κ → Type 0)
+      (tells : (κ : Lifetimes) → Answer κ → End κ → Outcome A) → Outcome A → Type 0
   Allows Asks tells o =
       (κ : Lifetimes) × (a : Arguments κ) × (r : Answer κ) × (e : End κ)
       × Asks κ a × Contract κ a r e × (tells κ r e ≡ o)
