@@ -1,4 +1,4 @@
--- What gpscivil writes for a UTC count, civilgps answers by the GPS count of that UTC count.
+-- What is written for a UTC count, civilgps answers by the GPS count of that UTC count.
 use mathlib.Core.Path.{_≡_, _∙_}
 use Prim.Native.Nat.{ℕ, _<_, _^_}
 use Rattle.refusals.proofs.Steps.{goes-on}

@@ -1,2 +1,3 @@
 pub mod WholeInput
+pub mod ReadingFits
 pub mod Calls

@@ -8,9 +8,11 @@ use borrow.Author.Tests.{lt-leb}
 use lib.Dec.{ltb}
 use lib.ListN.{length}
 use Rattle.refusals.specs.Outcome.{refused}
+use Rattle.civil.specs.declared.CivilDateTime.{CivilDateTime}
+use Rattle.stamps.specs.Form.{written}
 use Rattle.lines.proofs.OutcomeLines as outcome
 use Rattle.lines.proofs.WholeInput as law
-use Rattle.gpscivil.specs.Answer.{utcOfLine, civilOf, answerTo}
+use Rattle.gpscivil.specs.Answer.{readingOfLine, answerTo}
 
 -- ---- the statement
 abbrev pub GpscivilCutAnywhere : Type 0
@@ -18,17 +20,16 @@ GpscivilCutAnywhere = law.CutAnywhere answerTo
 
 -- ---- its proof
 -- a count has at most 20 digits
-too-long : (l : List ℕ) → 127 < length l → utcOfLine l ≡ refused 10
-unfolding utcOfLine
+too-long : (l : List ℕ) → 127 < length l → readingOfLine l ≡ refused 10
+unfolding readingOfLine
 too-long l h = rw (lt-leb (length l) 20 (omega arith), and-false (ltb 0 (length l)))
 
 -- the form has 30 bytes
-form-short : (utc : ℕ) → length (civilOf utc) ≤ 30
-unfolding civilOf
-form-short utc = omega arith
+form-short : (c : CivilDateTime) → length (written c) ≤ 30
+form-short c = omega arith
 
 pub answers-lines : law.AnswersLines 31 answerTo
-answers-lines = outcome.answers-lines civilOf form-short utcOfLine too-long
+answers-lines = outcome.answers-lines written form-short readingOfLine too-long
 
 pub cut-anywhere : GpscivilCutAnywhere
 cut-anywhere = law.cut-anywhere answerTo answers-lines

@@ -2,21 +2,17 @@
 use Prim.Native.Nat.{ℕ}
 use mathlib.Core.List.{List}
 use Rattle.refusals.specs.Outcome.{Outcome, then, changed}
-use Rattle.civil.specs.Fields.{fieldsOf}
-use Rattle.conversions.specs.Conversions.{gpsToUtc}
+use Rattle.civil.specs.declared.CivilDateTime.{CivilDateTime}
 use Rattle.builtin.specs.Builtin.{builtin}
+use Rattle.readings.specs.Readings.{gpsToCivil}
 use Rattle.words.specs.Decimal.{countRead}
 use Rattle.stamps.specs.Form.{written}
 use Rattle.lines.specs.OutcomeLine.{lineOf}
 
--- the UTC count of a GPS count in digits
-unfoldable pub utcOfLine : List ℕ → Outcome ℕ
-utcOfLine l = then (countRead l) (gpsToUtc builtin)
-
--- the form of a UTC count
-unfoldable pub civilOf : ℕ → List ℕ
-civilOf utc = written (fieldsOf utc)
+-- the civil reading of a GPS count in digits
+unfoldable pub readingOfLine : List ℕ → Outcome CivilDateTime
+readingOfLine l = then (countRead l) (gpsToCivil builtin)
 
 -- the answer as a line; a line of more than 127 bytes is refused, by 10 (proofs/WholeInput.antt)
 abbrev pub answerTo : List ℕ → List ℕ
-answerTo l = lineOf (changed civilOf (utcOfLine l))
+answerTo l = lineOf (changed written (readingOfLine l))

@@ -1,13 +1,16 @@
-// Reads GPS counts, one a line, and writes each one's UTC date and time by the built-in table, or why there is none.
+// Reads GPS counts, one a line, and writes each one's UTC date and time by the built-in table, or why there is none. An
+// inserted second is 23:59:60.
 ghost use mathlib.Core.Path.{_≡_};
 ghost use Prim.Native.Nat.{_≤_, _<_};
 ghost use lib.ListN.{length, take};
 ghost use Rattle.refusals.specs.Outcome.{answered};
-ghost use Rattle.scales.specs.Answers.{utcIn};
+ghost use Rattle.readings.specs.Answers.{readingIn};
+ghost use Rattle.stamps.specs.Form.{Fits, written};
 ghost use Rattle.lines.specs.OutcomeLine.{Puts, PutsWithRoom, lineOf};
 ghost use Rattle.lines.specs.Pieces.{AnswersBlock};
 ghost use Rattle.lines.specs.Places.{Within, Stands};
-ghost use Rattle.gpscivil.specs.Answer.{civilOf, utcOfLine, answerTo};
+ghost use Rattle.gpscivil.specs.Answer.{readingOfLine, answerTo};
+use civil::CivilDateTime;
 use counts::CountAnswer;
 use lines::inner::find::Answered;
 use lines::inner::find::keep;
@@ -18,31 +21,31 @@ use lines::inner::streams::Progress;
 use lines::inner::streams::explain;
 use lines::inner::streams::read_on;
 use lines::inner::streams::write_out;
+use readings::ReadingAnswer;
 use scales::gps::Gps;
-use scales::utc::Utc;
-use scales::utc::UtcAnswer;
 use texts::inner::LINE_END;
 use texts::inner::next_end;
 
 // The longest answer: a date and time, and a line end.
 const LONGEST_ANSWER: usize = 31;
 
-// The UTC count of a line that is a GPS count.
-fn utc_of_line(line: &[u8]) -> UtcAnswer
-    ensures { λ r. ⌜ utcIn r ≡ utcOfLine (now (line .entry)) ⌝ }
+// The civil reading of a line that is a GPS count.
+fn reading_of_line(line: &[u8]) -> ReadingAnswer
+    ensures { λ r. ⌜ readingIn r ≡ readingOfLine (now (line .entry)) ⌝ }
 {
     match words::digits::read_count(line) {
-        CountAnswer::Count(gps) => builtin::gps_to_utc(Gps(gps)),
-        CountAnswer::Refused(refusal) => UtcAnswer::Refused(refusal),
+        CountAnswer::Count(gps) => readings::by_builtin::gps_to_civil(Gps(gps)),
+        CountAnswer::Refused(refusal) => ReadingAnswer::Refused(refusal),
     }
 }
 
-// Writes a UTC count in the civil form, and a line end.
-fn put_civil(utc: Utc, out: &mut [u8]) -> usize
+// Writes a date and a time of day in the civil form, and a line end.
+fn put_civil(fields: CivilDateTime, out: &mut [u8]) -> usize
     requires { ⌜ 31 ≤ length (now out) ⌝ }
-    ensures { λ r. ⌜ Puts (lineOf (answered (civilOf (utc .0)))) (now (out .entry)) (now (out .exit)) r ⌝ }
+    requires { ⌜ Fits fields ⌝ }
+    ensures { λ r. ⌜ Puts (lineOf (answered (written fields))) (now (out .entry)) (now (out .exit)) r ⌝ }
 {
-    stamps::inner::put(out, 0, civil::to_civil(utc));
+    stamps::inner::put(out, 0, fields);
     out[30] = LINE_END;
     31
 }
@@ -54,9 +57,9 @@ pub fn answer_line(line: &[u8], out: &mut [u8]) -> usize
     if out.len() < LONGEST_ANSWER {
         return 0;
     }
-    match utc_of_line(line) {
-        UtcAnswer::Count(utc) => put_civil(utc, out),
-        UtcAnswer::Refused(refusal) => put_refused(refusal, out),
+    match reading_of_line(line) {
+        ReadingAnswer::Fields(fields) => put_civil(fields, out),
+        ReadingAnswer::Refused(refusal) => put_refused(refusal, out),
     }
 }
 

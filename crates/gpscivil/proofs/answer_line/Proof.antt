@@ -2,18 +2,26 @@
 use mathlib.Core.Path.{refl, sym, ap, _∙_}
 use borrow.Author.Needs.{needs}
 use borrow.Author.Tests.{lt-ltb, le-ltb}
-use Rattle.scales.specs.Answers.{utcIn}
+use Rattle.readings.specs.Answers.{readingIn}
+use Rattle.gpscivil.proofs.ReadingFits.{line-fits}
 use Rattle.gpscivil.proofs.answer_line as call
 
 returns : call.Tie.Need-returns
 returns c = let short = c .if1 .taken in rw lt-ltb (refl, refl)
+
+put-civil-requires : call.Tie.Need-put-civil-requires
+put-civil-requires c κs =
+    let arm = c .before .before in
+    let read = arm .before .before in
+    let found = sym (read .reading-of-line .ensures) ∙ ap readingIn (arm .fields .given .1) in
+    (search needs, line-fits _ (arm .fields .given .0 .0) found)
 
 returns-2 : call.Tie.Need-returns-2
 returns-2 c =
     let put = c .before .before in
     let arm = put .before .before .before in
     let room = arm .before .before .before .if1 .left in
-    let found = sym (arm .before .before .utc-of-line .ensures) ∙ ap utcIn (arm .utc .given .1) in
+    let found = sym (arm .before .before .reading-of-line .ensures) ∙ ap readingIn (arm .fields .given .1) in
     rw (le-ltb, found) (put .put-civil .ensures)
 
 returns-3 : call.Tie.Need-returns-3
@@ -21,13 +29,13 @@ returns-3 c =
     let put = c .before .before in
     let arm = put .before .before .before in
     let room = arm .before .before .before .if1 .left in
-    let found = sym (arm .before .before .utc-of-line .ensures) ∙ ap utcIn (arm .refusal .given .1) in
+    let found = sym (arm .before .before .reading-of-line .ensures) ∙ ap readingIn (arm .refusal .given .1) in
     rw (le-ltb, found) (put .put-refused .ensures)
 
--- returns, utc-of-line-requires, enum-known-utc, put-civil-requires, enum-known-refusal, put-refused-requires,
+-- returns, reading-of-line-requires, enum-known-fields, put-civil-requires, enum-known-refusal, put-refused-requires,
 -- same-length, returns-2, same-length-2, returns-3
 pub answer-line-spec : {M : Type 1} → call.Statement.statement M
 answer-line-spec =
     call.Tie.close
-    (call.Tie.spec returns (λ c κs. search needs) (λ c. search needs) (λ c κs. search needs) (λ c. search needs)
+    (call.Tie.spec returns (λ c κs. search needs) (λ c. search needs) put-civil-requires (λ c. search needs)
     (λ c κs. search needs) (λ c. search needs) returns-2 (λ c. search needs) returns-3)
