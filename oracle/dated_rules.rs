@@ -94,7 +94,7 @@ fn later(entries: &[LeapEntry], first: Told) -> Rule {
 }
 
 /// Whether the table begins (0, 19) and has its thresholds at least a day apart.
-fn is_regular(entries: &[LeapEntry]) -> bool {
+pub fn is_regular(entries: &[LeapEntry]) -> bool {
     let gap = |pair: &[LeapEntry]| i128::from(pair[1].tai_nanos) - i128::from(pair[0].tai_nanos);
     entries.first() == Some(&LeapEntry::new(0, 19)) && entries.windows(2).all(|pair| gap(pair) >= DAY)
 }

@@ -5,12 +5,12 @@ use std::collections::BTreeSet;
 
 const HEADER: &str = include_str!("../include/plaitgate.h");
 
-/// What the header does not share with the calls that are compared and the one that is compared apart from them, a
+/// What the header does not share with the calls that are compared and those that are compared apart from them, a
 /// sentence each.
-pub fn disagreements<'a>(calls: impl Iterator<Item = &'a Call>, apart: &str) -> Vec<String> {
+pub fn disagreements<'a>(calls: impl Iterator<Item = &'a Call>, apart: Vec<String>) -> Vec<String> {
     let declared = declarations(HEADER);
     let mut compared: BTreeSet<String> = calls.map(|call| call.prototype.clone()).collect();
-    compared.insert(apart.to_string());
+    compared.extend(apart);
     let only_declared = declared.difference(&compared).map(|it| format!("declared and not compared: {it}"));
     let only_compared = compared.difference(&declared).map(|it| format!("compared and not declared: {it}"));
     only_declared.chain(only_compared).collect()

@@ -6,6 +6,7 @@ mod by_table;
 mod call;
 mod calls;
 mod chance;
+mod civil_reader;
 mod compare;
 mod dated_questions;
 mod dated_rules;
@@ -23,8 +24,11 @@ mod list_reader;
 mod lists;
 mod number;
 mod original;
+mod peers;
 mod published;
 mod questions;
+mod reading_inputs;
+mod readings;
 mod record;
 mod shifted;
 mod slips;
@@ -59,7 +63,8 @@ fn main() -> ExitCode {
             return failed(&format!("cannot write {file}: {error}"));
         }
     }
-    let disagreements = header::disagreements(calls.iter().chain(&with_expiries), &published::prototype());
+    let apart = [readings::prototypes(), vec![published::prototype()]].concat();
+    let disagreements = header::disagreements(calls.iter().chain(&with_expiries), apart);
     if !disagreements.is_empty() {
         return failed(&format!("include/plaitgate.h and the oracle disagree\n{}", disagreements.join("\n")));
     }
@@ -152,9 +157,11 @@ fn run(calls: &[call::Call], with_expiries: &[call::Call], seed: u64, count: u64
         return failed("an expiry was not met in each of the five ways");
     }
     println!("oracle: {} comparisons by the rules, with expiries, no difference", dated.comparisons);
-    match published::compare(seed, count) {
-        Ok(sentences) => sentences.iter().for_each(|sentence| println!("oracle: {sentence}")),
-        Err(reason) => return failed(&reason),
+    for compare in [published::compare, readings::compare, peers::compare] {
+        match compare(seed, count) {
+            Ok(sentences) => sentences.iter().for_each(|sentence| println!("oracle: {sentence}")),
+            Err(reason) => return failed(&reason),
+        }
     }
     println!("oracle: {} examples, answered alike by both", examples::COUNT);
     println!("oracle: {} slips, each wrong where the port is right", slips::COUNT);
