@@ -52,6 +52,13 @@ impl CivilDate {
 
 /// A date and a time of day. No field is checked: hour 24 is the next day's hour 0.
 ///
+/// Second 60 is an inserted second in a reading of a GPS count ([`Gps::to_civil`](crate::Gps::to_civil)), and
+/// [`to_gps`](CivilDateTime::to_gps) takes it only where there is one. [`to_utc`](CivilDateTime::to_utc) is lenient:
+/// there second 60 is the next minute's second 0, whether one was inserted or not.
+///
+/// The order is that of the fields, from the year on. Of two GPS counts the later has the later reading by the same
+/// table. Fields that are no reading are ordered as they are written: hour 24 comes before the next day's hour 0.
+///
 /// ```
 /// use plaitgate::{CivilDateTime, Error, Utc};
 ///
@@ -61,9 +68,10 @@ impl CivilDate {
 /// assert_eq!(utc.to_civil(), noon);
 /// assert!(noon.is_whole_second());
 /// assert_eq!(CivilDateTime { year: 1971, ..noon }.to_utc(), Err(Error::Overflow));
+/// assert!(noon < CivilDateTime { nanos: 1, ..noon });
 /// # Ok::<(), plaitgate::Error>(())
 /// ```
-#[derive(Debug, Clone, Copy, PartialEq, Eq, Hash)]
+#[derive(Debug, Clone, Copy, PartialEq, Eq, PartialOrd, Ord, Hash)]
 pub struct CivilDateTime {
     pub year: i32,
     pub month: u8,
@@ -87,7 +95,8 @@ impl CivilDateTime {
         sys::civil_to_utc_nanos(self.year, self.month, self.day, self.hour, self.minute, self.second, self.nanos)
     }
 
-    /// The UTC count. Refuses as `to_utc_nanos`.
+    /// The UTC count. Refuses as `to_utc_nanos`. Second 60 is the next minute's second 0: [`to_gps`](Self::to_gps) keeps
+    /// an inserted second.
     pub fn to_utc(self) -> Result<Utc> {
         sys::civil_to_utc(self.year, self.month, self.day, self.hour, self.minute, self.second, self.nanos)
             .map(Utc::from_nanos)

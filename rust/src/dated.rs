@@ -3,9 +3,9 @@
 /// An answer by a table, and whether the table has expired.
 ///
 /// It is stale exactly if the table has an [`expiry`](crate::LeapTable::expiry) and the TAI count that was looked up
-/// last is at or past it. The answer is as good as the table: a leap second that was announced after its file was made
-/// is missing in it. A rack lights its lamp, fetches a new file, and goes on stamping. The expiry never changes a
-/// value, and a refused call tells nothing.
+/// last is at or past it; for a civil reading and back, the TAI count of the GPS count. The answer is as good as the
+/// table: a leap second that was announced after its file was made is missing in it. A rack lights its lamp, fetches a
+/// new file, and goes on stamping. The expiry never changes a value, and a refused call tells nothing.
 ///
 /// ```
 /// use plaitgate::{Gps, LeapTable, Tai};

@@ -17,6 +17,10 @@
 //!
 //! // such a count is turned into the first of the two
 //! assert_eq!(utc.to_gps()?, inserted);
+//!
+//! // their civil readings differ: the inserted second is 23:59:60
+//! assert_eq!((inserted.to_civil()?.second, after.to_civil()?.second), (60, 0));
+//! assert_eq!(after.to_civil()?.to_gps()?, after);
 //! # Ok::<(), plaitgate::Error>(())
 //! ```
 //!
@@ -44,6 +48,7 @@ mod glonass;
 mod gps;
 mod list;
 mod provider;
+mod readings;
 mod scale;
 mod shifted;
 #[allow(unsafe_code)]

@@ -36,7 +36,7 @@ impl LeapSeconds {
 /// What a conversion can go by: a [`LeapTable`], the built-in table [`LeapSeconds`], or a reference to one.
 ///
 /// The library looks tables up itself, so no other type can be one.
-pub trait LeapSecondsProvider: by_table::Conversions {
+pub trait LeapSecondsProvider: by_table::Conversions + by_table::Readings {
     /// TAI minus UTC in seconds at a TAI count.
     fn tai_minus_utc_at(&self, tai: Tai) -> i32;
 
@@ -72,33 +72,35 @@ impl<P: LeapSecondsProvider> LeapSecondsProvider for &P {
 
 mod by_table {
     use super::{sys, Dated, LeapSeconds, LeapTable, Result};
+    use crate::{readings, CivilDateTime};
 
-    /// The conversions on plain counts, by the table at hand, and whether it has expired.
+    /// A trait of conversions by the table at hand, which also tell whether it has expired. After the trait comes the
+    /// module of the functions that do them.
     macro_rules! conversions {
-        ($($name:ident by $table:ident, $builtin:ident: $given:ty => $result:ty;)*) => {
-            pub trait Conversions {
+        ($Trait:ident, $home:ident: $($name:ident by $table:ident, $builtin:ident: $given:ty => $result:ty;)*) => {
+            pub trait $Trait {
                 $(fn $name(&self, given: $given) -> Result<Dated<$result>>;)*
             }
 
-            impl Conversions for LeapTable {
+            impl $Trait for LeapTable {
                 $(
                     #[inline]
                     fn $name(&self, given: $given) -> Result<Dated<$result>> {
-                        sys::$table(given, &self.image).map(Dated::of)
+                        $home::$table(given, &self.image).map(Dated::of)
                     }
                 )*
             }
 
-            impl Conversions for LeapSeconds {
+            impl $Trait for LeapSeconds {
                 $(
                     #[inline]
                     fn $name(&self, given: $given) -> Result<Dated<$result>> {
-                        sys::$builtin(given).map(Dated::without_expiry)
+                        $home::$builtin(given).map(Dated::without_expiry)
                     }
                 )*
             }
 
-            impl<P: Conversions> Conversions for &P {
+            impl<P: $Trait> $Trait for &P {
                 $(
                     #[inline]
                     fn $name(&self, given: $given) -> Result<Dated<$result>> {
@@ -109,7 +111,7 @@ mod by_table {
         };
     }
 
-    conversions! {
+    conversions! { Conversions, sys:
         gps_to_utc by table_gps_to_utc, builtin_gps_to_utc: u64 => u64;
         utc_to_gps by table_utc_to_gps, builtin_utc_to_gps: u64 => u64;
         glonass_to_gps by table_glonass_to_gps, builtin_glonass_to_gps: u64 => u64;
@@ -124,5 +126,10 @@ mod by_table {
         utc_to_beidou by table_utc_to_beidou, builtin_utc_to_beidou: u64 => u64;
         beidou_to_glonass by table_beidou_to_glonass, builtin_beidou_to_glonass: u64 => u64;
         glonass_to_beidou by table_glonass_to_beidou, builtin_glonass_to_beidou: u64 => u64;
+    }
+
+    conversions! { Readings, readings:
+        gps_to_civil by table_gps_to_civil, builtin_gps_to_civil: u64 => CivilDateTime;
+        civil_to_gps by table_civil_to_gps, builtin_civil_to_gps: CivilDateTime => u64;
     }
 }

@@ -5,7 +5,8 @@
 // Functions whose answer is a constant, or the input as it came, are called by the tests alone: outside they are
 // `const`.
 // In the macros a single result stands in parentheses, as several do.
-#![allow(dead_code, unused_parens)]
+// A function has as many inputs as in C.
+#![allow(dead_code, unused_parens, clippy::too_many_arguments)]
 
 use crate::{Error, Result};
 
@@ -252,6 +253,9 @@ of_numbers! { declared_of_numbers:
     builtin_gps_to_glonass(gps: u64) -> (glonass: u64);
     builtin_gps_from_unix_seconds(seconds: i64) -> (gps: u64);
     builtin_gps_as_unix_seconds(gps: u64) -> (seconds: i64);
+    builtin_gps_to_civil(gps: u64)
+        -> (year: i32, month: u8, day: u8, hour: u8, minute: u8, second: u8, nanos: u32);
+    builtin_civil_to_gps(year: i32, month: u8, day: u8, hour: u8, minute: u8, second: u8, nanos: u32) -> (gps: u64);
 
     entry_of_event(year: i32, month: u8, day: u8, tai_minus_utc: i32) -> (tai_nanos: u64);
 }
@@ -271,6 +275,10 @@ of_bytes! { declared_of_images:
     table_gps_to_glonass(gps: u64)(image: &Image)() -> (glonass: u64, stale: u8);
     table_gps_from_unix_seconds(seconds: i64)(image: &Image)() -> (gps: u64, stale: u8);
     table_gps_as_unix_seconds(gps: u64)(image: &Image)() -> (seconds: i64, stale: u8);
+    table_gps_to_civil(gps: u64)(image: &Image)()
+        -> (year: i32, month: u8, day: u8, hour: u8, minute: u8, second: u8, nanos: u32, stale: u8);
+    table_civil_to_gps(year: i32, month: u8, day: u8, hour: u8, minute: u8, second: u8, nanos: u32)(image: &Image)()
+        -> (gps: u64, stale: u8);
 }
 
 of_bytes! { declared_of_lists:

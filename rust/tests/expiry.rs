@@ -34,6 +34,8 @@ fn all<P: LeapSecondsProvider>(number: u64, table: &P) -> Vec<(Option<bool>, Str
         said(utc.to_gps_dated(table), utc.to_gps_with(table)),
         said(gps.as_unix_seconds_dated(table), gps.as_unix_seconds(table)),
         said(Gps::from_unix_seconds_dated(unix, table), Gps::from_unix_seconds(unix, table)),
+        said(gps.to_civil_dated(table), gps.to_civil_with(table)),
+        said(utc.to_civil().to_gps_dated(table), utc.to_civil().to_gps_with(table)),
         said(galileo_to_utc_dated(galileo, table), galileo_to_utc(galileo, table)),
         said(utc_to_galileo_dated(utc, table), utc_to_galileo(utc, table)),
         said(galileo_to_glonass_dated(galileo, table), galileo_to_glonass(galileo, table)),

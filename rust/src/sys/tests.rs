@@ -109,6 +109,8 @@ fn a_forged_image_is_refused_by_8_in_every_call_and_is_left_alone() {
     }
     assert_eq!(table_gps_from_unix_seconds(i64::MIN, &forged), Err(bad));
     assert_eq!(table_gps_as_unix_seconds(u64::MAX, &forged), Err(bad));
+    assert_eq!(table_gps_to_civil(u64::MAX, &forged), Err(bad));
+    assert_eq!(table_civil_to_gps(i32::MIN, 0, 0, 0, 0, 60, 0, &forged), Err(bad));
     assert_eq!(table_try_extend(&mut forged, u64::MAX, 38), Err(bad));
     assert_eq!(table_set_expiry(&mut forged, 0), Err(bad));
     assert_eq!(forged, before);
