@@ -26,6 +26,10 @@ fn main() {
     for order in &ORDERS {
         shifted(&bench, order);
     }
+    bench.begin_against("by UTC", "reading");
+    for order in &ORDERS {
+        readings(&bench, order);
+    }
     list::lists(&bench);
 }
 
@@ -91,4 +95,19 @@ fn shifted(bench: &Bench, order: &Order) {
     let by_gps = |n| image.by_utc_to_gps(n);
     bench.against("UTC to Galileo, image", order.name, &galileo, by_gps, |n| image.by_utc_to_galileo(n), of_galileo);
     bench.against("UTC to BeiDou, image", order.name, &beidou, by_gps, |n| image.by_utc_to_beidou(n), of_beidou);
+}
+
+/// Civil readings of GPS counts, compared with GPS to UTC and then UTC to civil, which give the same fields outside an
+/// inserted second.
+fn readings(bench: &Bench, order: &Order) {
+    use port::{from_utc_nanos, gps_to_civil, gps_to_utc, Image};
+    let image = Image::of_builtin();
+    let inserted = |gps: &u64| gps_to_civil(*gps).is_ok_and(|fields| fields.second == 60);
+    let counts = (order.counts)(&OF_GPS).into_iter().filter(|gps| !inserted(gps));
+    let pairs: Vec<(u64, u64)> = counts.map(|gps| (gps, gps)).collect();
+    let same = |by_utc: u64, reading: u64| by_utc == reading;
+    let by_utc = |gps| gps_to_utc(gps).and_then(from_utc_nanos);
+    bench.against("GPS to civil", order.name, &pairs, by_utc, gps_to_civil, same);
+    let by_utc = |gps| image.by_gps_to_utc(gps).and_then(from_utc_nanos);
+    bench.against("GPS to civil, image", order.name, &pairs, by_utc, |gps| image.gps_to_civil(gps), same);
 }

@@ -26,6 +26,31 @@ extern "C" {
         count: *mut u64,
     ) -> u32;
 
+    fn plaitgate_builtin_gps_to_civil(
+        gps: u64,
+        year: *mut i32,
+        month: *mut u8,
+        day: *mut u8,
+        hour: *mut u8,
+        minute: *mut u8,
+        second: *mut u8,
+        nanos: *mut u32,
+    ) -> u32;
+
+    fn plaitgate_table_gps_to_civil(
+        gps: u64,
+        image: *const u8,
+        image_bytes: usize,
+        year: *mut i32,
+        month: *mut u8,
+        day: *mut u8,
+        hour: *mut u8,
+        minute: *mut u8,
+        second: *mut u8,
+        nanos: *mut u32,
+        stale: *mut u8,
+    ) -> u32;
+
     fn plaitgate_builtin_gps_to_utc(gps: u64, utc: *mut u64) -> u32;
     fn plaitgate_builtin_utc_to_gps(utc: u64, gps: *mut u64) -> u32;
     fn plaitgate_table_gps_to_utc(gps: u64, image: *const u8, image_bytes: usize, utc: *mut u64, stale: *mut u8)
@@ -111,6 +136,26 @@ pub fn from_utc_nanos(count: u64) -> Answer<CivilDateTime> {
     answer(refusal, c)
 }
 
+/// A civil reading by the built-in table.
+#[inline(always)]
+pub fn gps_to_civil(gps: u64) -> Answer<CivilDateTime> {
+    let mut c = CivilDateTime { year: 0, month: 0, day: 0, hour: 0, minute: 0, second: 0, nanos: 0 };
+    // SAFETY: each result has a place of its own
+    let refusal = unsafe {
+        plaitgate_builtin_gps_to_civil(
+            gps,
+            &mut c.year,
+            &mut c.month,
+            &mut c.day,
+            &mut c.hour,
+            &mut c.minute,
+            &mut c.second,
+            &mut c.nanos,
+        )
+    };
+    answer(refusal, c)
+}
+
 #[inline(always)]
 pub fn to_utc_nanos(c: CivilDateTime) -> Answer<u64> {
     let mut count = 0;
@@ -145,6 +190,30 @@ const EXPIRY_BYTES: usize = 8;
 pub struct Image(pub [u8; IMAGE_BYTES]);
 
 impl Image {
+    /// A civil reading by this table.
+    #[inline(always)]
+    pub fn gps_to_civil(&self, gps: u64) -> Answer<CivilDateTime> {
+        let mut c = CivilDateTime { year: 0, month: 0, day: 0, hour: 0, minute: 0, second: 0, nanos: 0 };
+        let mut stale = 0;
+        // SAFETY: the image is so long, and each result has a place of its own
+        let refusal = unsafe {
+            plaitgate_table_gps_to_civil(
+                gps,
+                self.0.as_ptr(),
+                self.0.len(),
+                &mut c.year,
+                &mut c.month,
+                &mut c.day,
+                &mut c.hour,
+                &mut c.minute,
+                &mut c.second,
+                &mut c.nanos,
+                &mut stale,
+            )
+        };
+        answer(refusal, c)
+    }
+
     pub fn of_builtin() -> Image {
         let mut image = Image([0; IMAGE_BYTES]);
         // SAFETY: the image is so long

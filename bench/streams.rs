@@ -8,6 +8,7 @@ use std::path::Path;
 use std::process::{Command, Stdio};
 use std::time::{Duration, Instant};
 
+const SECOND: u64 = 1_000_000_000;
 const LINES: u64 = 5_000_000;
 const ROUNDS: usize = 7;
 const BLOCK: usize = 65_536;
@@ -201,13 +202,22 @@ fn measure(programs: &Path, work: &Path) -> io::Result<()> {
     Ok(())
 }
 
-/// Counts from 1980 to 2024 without pattern, by a linear congruence with the multiplier of Knuth's MMIX.
+/// Whether a GPS count is in an inserted second, where the crate's civil form is not the reading that the port writes:
+/// the count a second later has the same UTC count.
+fn is_inserted(gps: u64) -> bool {
+    let utc = |gps| Time::<Gps>::from_nanos(gps).to_utc().ok();
+    utc(gps) == utc(gps + SECOND)
+}
+
+/// Counts from 1980 to 2024 without pattern, by a linear congruence with the multiplier of Knuth's MMIX. One in an
+/// inserted second is moved to the next.
 fn write_counts(path: &Path) -> io::Result<()> {
     let mut out = BufWriter::new(File::create(path)?);
     let mut state = 7u64;
     for _ in 0..LINES {
         state = state.wrapping_mul(6_364_136_223_846_793_005).wrapping_add(1_442_695_040_888_963_407);
-        writeln!(out, "{}", (state >> 3) % 1_400_000_000_000_000_000)?;
+        let gps = (state >> 3) % 1_400_000_000_000_000_000;
+        writeln!(out, "{}", if is_inserted(gps) { gps + SECOND } else { gps })?;
     }
     out.flush()
 }
