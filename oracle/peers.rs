@@ -42,7 +42,7 @@ const DAYS_UP_TO_2038: usize = 21_180;
 const DAYS_UP_TO_2100: u64 = 43_825;
 const DIFFERENCES_SHOWN: u64 = 5;
 
-/// Compares both ways at all instants in order and at so many random ones. What there is to say of it, or why it failed.
+/// Compares both ways at all instants in order and at `count` random ones. What there is to say of it, or why it failed.
 pub fn compare(seed: u64, count: u64) -> Result<Vec<String>, String> {
     if let Err(error) = std::fs::read(ZONE) {
         if std::env::var("CI").as_deref() == Ok("true") {

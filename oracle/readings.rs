@@ -313,7 +313,7 @@ fn expiry_near(tai: Option<i128>, turn: usize) -> u64 {
     u64::narrow(expiries[turn % expiries.len()])
 }
 
-/// What has to be met besides the numbers.
+/// What has to be met in addition to the numbers.
 enum Met {
     ReadAs60,
     BackFrom60,
@@ -345,7 +345,7 @@ struct Tally {
 }
 
 impl Tally {
-    /// All counts of a table and their fields, with so many changes of each.
+    /// All counts of a table and their fields, with up to `changes` changes of each.
     fn in_order(&mut self, by: &By, changes: usize) {
         let step = if by.reader.is_ok() { 1 } else { REFUSED_STEP };
         for gps in tried::counts(&by.entries).into_iter().step_by(step) {
