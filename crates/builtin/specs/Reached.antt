@@ -4,7 +4,7 @@ use mathlib.Core.List.{List, [], _∷_, _++_}
 use Prim.Native.Nat.{ℕ, _+_}
 use lib.Dec.{leb}
 use lib.IntN.{pos}
-use lib.ListN.{drop}
+use lib.ListN.{getD, drop}
 use Rattle.tables.specs.declared.Lookup.{Lookup}
 use Rattle.tables.specs.declared.Place.the-variants as place
 use Rattle.tables.specs.declared.Threshold.{Threshold}
@@ -30,6 +30,10 @@ eventsFrom1994 =
 abbrev pub firstOf : List ℕ → Threshold
 firstOf [] = next.Nothing
 firstOf (x ∷ xs) = next.At x
+
+-- the threshold of an event, counted from 0; 0 past the last
+abbrev pub eventAt : ℕ → ℕ
+eventAt event = getD (eventsTo1993 ++ eventsFrom1994) event 0
 
 -- the threshold after as many events
 abbrev pub eventAfter : ℕ → Threshold

@@ -10,7 +10,8 @@ ghost use Rattle.counts.specs.Answers.{countIn};
 ghost use Rattle.tables.specs.Entries.{lookup};
 ghost use Rattle.conversions.specs.Conversions.{gpsToUtc};
 ghost use Rattle.builtin.specs.Builtin.{builtin};
-ghost use Rattle.builtin.specs.Reached.{countReached, eventsTo1993, eventsFrom1994, eventAfter, toldAt};
+ghost use Rattle.builtin.specs.Reached.{countReached, eventsTo1993, eventsFrom1994, eventAt, eventAfter};
+ghost use Rattle.builtin.specs.Reached.{toldAt};
 use conversions::inner;
 use counts::CountAnswer;
 use tables::Lookup;
@@ -54,6 +55,9 @@ pub const JULY_2012: u64 = 1_025_136_035_000_000_000;
 pub const JULY_2015: u64 = 1_119_744_036_000_000_000;
 
 pub const JANUARY_2017: u64 = 1_167_264_037_000_000_000;
+
+// How many events there are.
+const EVENTS: u64 = 18;
 
 fn reached(threshold: u64, tai: u64) -> u64
     ensures is { λ r. ⌜ r ≡ cond (leb threshold tai) 1 0 ⌝ }
@@ -127,30 +131,42 @@ fn events_from_1994(tai: u64) -> u64
     )
 }
 
-// The threshold after as many events, which only a reading of the clock needs.
+// The threshold of an event, counted from 0. The arms are plain numbers, so that the compiler makes a table of them and
+// not a jump, which would be predicted wrong.
+fn event_threshold(event: u64) -> u64
+    ensures { λ r. ⌜ r ≡ eventAt event ⌝ }
+{
+    match event {
+        0 => JULY_1981,
+        1 => JULY_1982,
+        2 => JULY_1983,
+        3 => JULY_1985,
+        4 => JANUARY_1988,
+        5 => JANUARY_1990,
+        6 => JANUARY_1991,
+        7 => JULY_1992,
+        8 => JULY_1993,
+        9 => JULY_1994,
+        10 => JANUARY_1996,
+        11 => JULY_1997,
+        12 => JANUARY_1999,
+        13 => JANUARY_2006,
+        14 => JANUARY_2009,
+        15 => JULY_2012,
+        16 => JULY_2015,
+        17 => JANUARY_2017,
+        _ => 0,
+    }
+}
+
+// The threshold after as many events.
 fn threshold_after(events: u64) -> Threshold
     ensures { λ r. ⌜ r ≡ eventAfter events ⌝ }
 {
-    match events {
-        0 => Threshold::At(JULY_1981),
-        1 => Threshold::At(JULY_1982),
-        2 => Threshold::At(JULY_1983),
-        3 => Threshold::At(JULY_1985),
-        4 => Threshold::At(JANUARY_1988),
-        5 => Threshold::At(JANUARY_1990),
-        6 => Threshold::At(JANUARY_1991),
-        7 => Threshold::At(JULY_1992),
-        8 => Threshold::At(JULY_1993),
-        9 => Threshold::At(JULY_1994),
-        10 => Threshold::At(JANUARY_1996),
-        11 => Threshold::At(JULY_1997),
-        12 => Threshold::At(JANUARY_1999),
-        13 => Threshold::At(JANUARY_2006),
-        14 => Threshold::At(JANUARY_2009),
-        15 => Threshold::At(JULY_2012),
-        16 => Threshold::At(JULY_2015),
-        17 => Threshold::At(JANUARY_2017),
-        _ => Threshold::Nothing,
+    if events < EVENTS {
+        Threshold::At(event_threshold(events))
+    } else {
+        Threshold::Nothing
     }
 }
 
