@@ -92,7 +92,7 @@ pub fn from_builtin() -> LeapTable
 pub fn tai_minus_utc_at(tai: Tai) -> i32
     ensures { λ r. ⌜ r ≡ offsetAt builtin (tai .0) ⌝ }
 {
-    lookup::look_up(tai.0).offset
+    lookup::entry_told(lookup::event_at(tai.0)).offset
 }
 
 pub fn gps_to_utc(gps: Gps) -> UtcAnswer

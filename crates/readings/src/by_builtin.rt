@@ -8,7 +8,8 @@ use crate::ReadingAnswer;
 use crate::inner::back;
 use crate::inner::read;
 use builtin::inner::by_utc::gps_from_utc;
-use builtin::inner::lookup::look_up;
+use builtin::inner::lookup::entry_told;
+use builtin::inner::lookup::event_at;
 use civil::CivilDateTime;
 use conversions::inner::reading_of;
 use conversions::inner::tai_of;
@@ -20,7 +21,7 @@ pub fn gps_to_civil(gps: Gps) -> ReadingAnswer
     ensures { λ r. ⌜ readingIn r ≡ gpsToCivil builtin (gps .0) ⌝ }
 {
     let tai = tai_of(CountAnswer::Count(gps.0));
-    read(look_up(reading_of(tai)), tai)
+    read(entry_told(event_at(reading_of(tai))), tai)
 }
 
 pub fn civil_to_gps(fields: CivilDateTime) -> GpsAnswer
@@ -28,6 +29,6 @@ pub fn civil_to_gps(fields: CivilDateTime) -> GpsAnswer
 {
     let utc = fields.to_utc_nanos();
     let first = gps_from_utc(utc);
-    let found = look_up(reading_of(tai_of(first)));
+    let found = entry_told(event_at(reading_of(tai_of(first))));
     GpsAnswer::of(back(fields, utc, first, found))
 }

@@ -170,7 +170,17 @@ fn threshold_after(events: u64) -> Threshold
     }
 }
 
-// What the entry tells that is in force from an event on, the first event being 1; 0 stands for the entry at reading 0.
+// The last event at or before a reading, the first being 1; 0 before it.
+pub fn event_at(tai: u64) -> u64
+    ensures is { λ r. ⌜ toldAt r ≡ lookup builtin tai ⌝ }
+    ensures few { λ r. ⌜ r ≤ 18 ⌝ }
+{
+    events_to_1993(tai) + events_from_1994(tai)
+}
+
+// What the entry tells that is in force from an event on; 0 stands for the entry at reading 0. A lookup is
+// `entry_told(event_at(tai))`, written out where it is made: the compiler would leave a function for it out of line, and
+// find the next threshold where the offset alone is asked for.
 pub fn entry_told(event: u64) -> Lookup
     requires { ⌜ event ≤ 18 ⌝ }
     ensures { λ r. ⌜ r ≡ toldAt event ⌝ }
@@ -182,16 +192,10 @@ pub fn entry_told(event: u64) -> Lookup
     }
 }
 
-// What is in force at a TAI reading.
-pub fn look_up(tai: u64) -> Lookup
-    ensures { λ r. ⌜ r ≡ lookup builtin tai ⌝ }
-{
-    entry_told(events_to_1993(tai) + events_from_1994(tai))
-}
-
 pub fn utc_from_gps(gps: CountAnswer) -> CountAnswer
     ensures { λ r. ⌜ countIn r ≡ then (countIn gps) (gpsToUtc builtin) ⌝ }
 {
     let tai = inner::tai_of(gps);
-    inner::utc_from_lookup(LookupAnswer::Told(look_up(inner::reading_of(tai))), tai)
+    let event = event_at(inner::reading_of(tai));
+    inner::utc_from_lookup(LookupAnswer::Told(entry_told(event)), tai)
 }

@@ -10,10 +10,11 @@ use Rattle.builtin.proofs.inner.lookup.utc_from_gps as call
 
 returns : call.Tie.Need-returns
 returns c =
-    let read = c .before .before in
+    let at = c .before .before in
+    let read = at .before in
     c .utc-from-lookup .ensures
     ∙ utc-from-store true builtin (countIn (read .before .before .args .gps)) (read .before .tai-of .ensures)
-    (read .reading-of .ensures) (ap answered (c .before .look-up .ensures))
+    (read .reading-of .ensures) (ap answered (c .before .entry-told .ensures ∙ at .event-at .ensures .0))
 
 pub utc-from-gps-spec : {M : Type 1} → call.Statement.statement M
-utc-from-gps-spec = call.Tie.close (call.Tie.spec (search needs) (search needs) (search needs) (search needs) returns)
+utc-from-gps-spec = call.Tie.close (call.Tie.spec (search needs) (search needs) (search needs) (search needs) (search needs) returns)
