@@ -67,7 +67,7 @@ macro_rules! lookup {
     }};
 }
 
-/// Measures a conversion by the built-in table, of both versions.
+/// Measures a call by the built-in table, of both versions. An offset of 32 bits is put into the low half of the result.
 macro_rules! by_builtin {
     ($bench:ident, $order:ident, $title:literal, $name:literal, $counts:expr) => {
         $bench.against(
@@ -158,5 +158,11 @@ fn main() {
         );
         by_builtin!(bench, order, "GPS to UTC", "gps_to_utc", OF_GPS);
         by_builtin!(bench, order, "UTC to GPS", "utc_to_gps", OF_UTC);
+        by_builtin!(bench, order, "GPS to GLONASS", "gps_to_glonass", OF_LATER_GPS);
+        by_builtin!(bench, order, "GLONASS to GPS", "glonass_to_gps", OF_GLONASS);
+        by_builtin!(bench, order, "Galileo to UTC", "galileo_to_utc", OF_GALILEO);
+        by_builtin!(bench, order, "UTC to Galileo", "utc_to_galileo", OF_LATER_UTC);
+        by_builtin!(bench, order, "GPS to Unix", "gps_as_unix_seconds", OF_GPS);
+        by_builtin!(bench, order, "lookup", "tai_minus_utc_at", OF_GPS);
     }
 }
