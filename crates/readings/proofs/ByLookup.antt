@@ -2,7 +2,7 @@
 -- that share a UTC count; from the day of the count.
 use mathlib.Core.Path.{_≡_, refl, sym, ap, _∙_}
 use mathlib.Core.Logic.{_↔_}
-use mathlib.Core.Bool.{Bool, true, false, cond, _&&_}
+use mathlib.Core.Bool.{Bool, true, false, cond, _&&_, and-false}
 use mathlib.Core.List.{List, List·Memᴰ}
 use Prim.Native.Nat.{ℕ, _+_, _*_, _-_, _/_, _%_, _^_, _≤_, _<_}
 use native.Mathlib.Omega.{arith}
@@ -33,7 +33,7 @@ use Rattle.conversions.proofs.LeapSeconds.{LeapSeconds, leaps, counted}
 use Rattle.conversions.proofs.OnNaturals.{tai, Reads, to-utc, from-gps, comes-back, apart}
 use Rattle.readings.specs.Readings.{dayOfGps, fieldsInDay, readingOf, gpsToCivil, sameFields, utcToLater, readSo}
 use Rattle.readings.specs.Readings.{civilToGps}
-use Rattle.readings.specs.ByLookup.{sixty, readingFrom, laterFrom, readSoFrom, backFrom}
+use Rattle.readings.specs.ByLookup.{inFirstSecond, sixty, readingFrom, laterFrom, readSoFrom, backFrom}
 use Rattle.readings.proofs.LaterEntries.{OnADay, near, both-tests, on-days}
 use Rattle.readings.proofs.Days.{day-of}
 
@@ -83,18 +83,30 @@ module _ (z n utc : ℕ) (from : utcEpochDay ≤ z) (exact : utc + utcEpochDay *
       ∙ ap (λ (s : ℕ). oneMore (fieldsOn date s ((n - second) % second))) before-midnight
       ∙ ap oneMore (in-the-day z (n - second) (utc - second) from (omega arith) (omega arith))
 
+  -- the UTC count is then in the first second of the next day
+  in-the-next-day : day ≤ n → n < day + second → inFirstSecond (fieldsOf utc) ≡ true
+  in-the-next-day last within =
+      let s = utc / second in
+      let whole : s % 86400 ≡ 0 = omega arith in
+      let hour : s % 86400 / 3600 ≡ 0 = ap (λ (x : ℕ). x / 3600) whole in
+      let in-hour : s % 3600 ≡ 0 = omega (arith, whole) in
+      let minute : s % 3600 / 60 ≡ 0 = ap (λ (x : ℕ). x / 60) in-hour in
+      let seconds : s % 60 ≡ 0 = omega (arith, whole) in
+      rw (hour, minute, seconds)
+
   -- by a test that tells that second
   by-test : (i j : ℕ) → n < day + second → (day ≤ n) ↔ (i < j)
-      → fieldsInDay z n ≡ cond (ltb i j) (sixty utc) (fieldsOf utc)
+      → fieldsInDay z n ≡ cond (inFirstSecond (fieldsOf utc) && ltb i j) (sixty utc) (fieldsOf utc)
   by-test i j within tells = go (decLt i j) (decLt n day)
     where
-      go : Dec (i < j) → Dec (n < day) → fieldsInDay z n ≡ cond (ltb i j) (sixty utc) (fieldsOf utc)
+      go : Dec (i < j) → Dec (n < day)
+          → fieldsInDay z n ≡ cond (inFirstSecond (fieldsOf utc) && ltb i j) (sixty utc) (fieldsOf utc)
       go (yes h) d =
           let last = tells .1 h in
-          rw (lt-ltb i j h, le-ltb n day last) (in-the-last-second last within)
+          rw (lt-ltb i j h, le-ltb n day last, in-the-next-day last within) (in-the-last-second last within)
       go (no h) (yes l) =
           let not-more : j ≤ i = omega (arith, h) in
-          rw (le-ltb i j not-more, lt-ltb n day l) (in-the-day z n utc from exact l)
+          rw (le-ltb i j not-more, lt-ltb n day l, and-false (inFirstSecond (fieldsOf utc))) (in-the-day z n utc from exact l)
       go (no h) (no l) = absurd (h (tells .0 (omega (arith, l))))
 
 pub by-lookup : (es : List Entry) (gps utc : ℕ) → onDays es ≡ true → gpsToUtc es gps ≡ answered utc
@@ -107,7 +119,7 @@ by-lookup es gps utc d e =
     let exact = from-gps es (leaps es) (counted es r) gps utc e .exact in
     by-test z n utc (omega (arith, at .from)) (omega (arith, at .exact))
     (leaps es t) (leaps es (t + second)) (at .within) (at .inserted)
-    ∙ ap (λ (q : Bool). cond q (sixty utc) (fieldsOf utc)) (sym (near es r t))
+    ∙ ap (λ (q : Bool). cond (inFirstSecond (fieldsOf utc) && q) (sixty utc) (fieldsOf utc)) (sym (near es r t))
 
 -- ---- the later count
 module _ (es : List Entry) (k : ℕ → ℕ) (f : LeapSeconds es k) where

@@ -1,6 +1,6 @@
 -- The reading of a GPS count by what a lookup at its TAI reading tells. Only contracts of functions in `inner` cite
 -- these definitions; proofs/ByLookup.antt says that they give the readings.
-use mathlib.Core.Bool.{Bool, false, cond}
+use mathlib.Core.Bool.{Bool, false, cond, _&&_}
 use Prim.Native.Nat.{ℕ, _+_, _-_}
 use lib.Dec.{eqb, leb}
 use Rattle.refusals.specs.Outcome.{Outcome, answered, refused, valueIn, then}
@@ -25,9 +25,14 @@ sixty utc =
     let c = fieldsOf (utc - second) in
     fields (c .year) (c .month) (c .day) (c .hour) (c .minute) (c .second + 1) (c .nanos)
 
+-- fields are in the first second of a day
+abbrev pub inFirstSecond : CivilDateTime → Bool
+inFirstSecond c = eqb (c .hour) 0 && eqb (c .minute) 0 && eqb (c .second) 0
+
 -- the reading of a TAI reading that has this UTC count, by what a lookup there tells
 abbrev pub readingFrom : Lookup → (tai utc : ℕ) → CivilDateTime
-readingFrom found tai utc = cond (nearBefore (found .next) tai) (sixty utc) (fieldsOf utc)
+readingFrom found tai utc =
+    cond (inFirstSecond (fieldsOf utc) && nearBefore (found .next) tai) (sixty utc) (fieldsOf utc)
 
 -- a GPS count, or the one a second later where the next threshold is in between
 abbrev pub laterFrom : Lookup → (tai gps : ℕ) → Outcome ℕ

@@ -8,7 +8,7 @@ ghost use Rattle.tables.specs.Expiry.{dated};
 ghost use Rattle.conversions.specs.Answers.{datedGpsIn};
 ghost use Rattle.conversions.specs.ByLookup.{utcFromLookup};
 ghost use Rattle.readings.specs.Readings.{sameFields};
-ghost use Rattle.readings.specs.ByLookup.{nearBefore, sixty, readingFrom, laterFrom, readSoFrom, backFrom};
+ghost use Rattle.readings.specs.ByLookup.{nearBefore, inFirstSecond, sixty, readingFrom, laterFrom, readSoFrom, backFrom};
 ghost use Rattle.readings.specs.Answers.{readingIn, datedReadingIn};
 use crate::DatedReading;
 use crate::ReadingAnswer;
@@ -66,15 +66,24 @@ fn sixty(utc: u64) -> CivilDateTime
     }
 }
 
-// The reading of a TAI reading that has this UTC count, by what a lookup there tells.
+// Whether fields are in the first second of a day.
+fn in_first_second(fields: CivilDateTime) -> bool
+    ensures { λ r. ⌜ r ≡ inFirstSecond fields ⌝ }
+{
+    (fields.hour == 0) & (fields.minute == 0) & (fields.second == 0)
+}
+
+// The reading of a TAI reading that has this UTC count, by what a lookup there tells. An inserted second has the UTC counts
+// of the second after it, so that the next threshold is compared only once a day.
 fn reading_from(found: Lookup, tai: u64, utc: u64) -> CivilDateTime
     ensures { λ r. ⌜ r ≡ readingFrom found tai utc ⌝ }
 {
     let next = found.next;
-    if near_before(next, tai) {
+    let fields = CivilDateTime::from_utc_nanos(utc);
+    if in_first_second(fields) && near_before(next, tai) {
         sixty(utc)
     } else {
-        CivilDateTime::from_utc_nanos(utc)
+        fields
     }
 }
 

@@ -131,8 +131,9 @@ fn events_from_1994(tai: u64) -> u64
     )
 }
 
-// The threshold of an event, counted from 0. The arms are plain numbers, so that the compiler makes a table of them and
-// not a jump, which would be predicted wrong.
+// The threshold of an event, counted from 0, and 0 past the last. The arms are plain numbers, and there is one for each
+// number of events that `event_at` gives, so that the compiler makes a table of them and no jump, which would be predicted
+// wrong.
 fn event_threshold(event: u64) -> u64
     ensures { λ r. ⌜ r ≡ eventAt event ⌝ }
 {
@@ -155,6 +156,7 @@ fn event_threshold(event: u64) -> u64
         15 => JULY_2012,
         16 => JULY_2015,
         17 => JANUARY_2017,
+        18 => 0,
         _ => 0,
     }
 }
@@ -163,8 +165,9 @@ fn event_threshold(event: u64) -> u64
 fn threshold_after(events: u64) -> Threshold
     ensures { λ r. ⌜ r ≡ eventAfter events ⌝ }
 {
+    let threshold = event_threshold(events);
     if events < EVENTS {
-        Threshold::At(event_threshold(events))
+        Threshold::At(threshold)
     } else {
         Threshold::Nothing
     }

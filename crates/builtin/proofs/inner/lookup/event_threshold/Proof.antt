@@ -12,7 +12,7 @@ eighteen : length (eventsTo1993 ++ eventsFrom1994) ≡ 18
 unfolding eventsTo1993 eventsFrom1994
 eighteen = refl
 
-past-all : (n : ℕ) → 18 ≤ n → 0 ≡ eventAt n
+past-all : (n : ℕ) → 19 ≤ n → 0 ≡ eventAt n
 past-all n l = sym (List·getD-eq-default (eventsTo1993 ++ eventsFrom1994) 0 {n = n} (omega (arith, eighteen)))
 
 module _ (c : call.Tie.Start) where
@@ -42,4 +42,5 @@ event-threshold-spec =
     (λ c. arm (c .before) 15 (c .match .keys16))
     (λ c. arm (c .before) 16 (c .match .keys17))
     (λ c. arm (c .before) 17 (c .match .keys18))
-    (λ c. past-all (c .before .args .event) (at-least 18 (c .before .args .event) (c .match .rest))))
+    (λ c. arm (c .before) 18 (c .match .keys19))
+    (λ c. past-all (c .before .args .event) (at-least 19 (c .before .args .event) (c .match .rest))))

@@ -21,7 +21,7 @@ past-all : (n : ℕ) → 18 ≤ n → next.Nothing ≡ eventAfter n
 past-all n l = sym (ap firstOf (drop-of-length-le (eventsTo1993 ++ eventsFrom1994) {i = n} (omega (arith, eighteen))))
 
 returns : call.Tie.Need-returns
-returns c = ap next.At (c .event-threshold .ensures) ∙ there _ (c .before .if1 .taken)
+returns c = ap next.At (c .before .event-threshold .ensures) ∙ there _ (c .if1 .taken)
 
 returns-2 : call.Tie.Need-returns-2
 returns-2 c = past-all _ (c .if1 .left)
