@@ -74,7 +74,7 @@ fn in_first_second(fields: CivilDateTime) -> bool
 }
 
 // The reading of a TAI reading that has this UTC count, by what a lookup there tells. An inserted second has the UTC counts
-// of the second after it, so that the next threshold is compared only once a day.
+// of the second after it, the first of a day, so only there is the next threshold compared.
 fn reading_from(found: Lookup, tai: u64, utc: u64) -> CivilDateTime
     ensures { λ r. ⌜ r ≡ readingFrom found tai utc ⌝ }
 {
