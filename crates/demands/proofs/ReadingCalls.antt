@@ -8,7 +8,7 @@ use denote.Ref.{now}
 use lib.IntN.{pos}
 use Rattle.refusals.specs.Outcome.{Outcome, valueIn}
 use Rattle.refusals.proofs.Given.{told-is}
-use Rattle.scales.specs.Answers.{gpsIn}
+use Rattle.counts.specs.Answers.{countIn}
 use Rattle.scales.specs.Scales.{taiMinusGps}
 use Rattle.civil.specs.Fields.{fields}
 use Rattle.civil.specs.declared.CivilDateTime.{CivilDateTime}
@@ -57,7 +57,7 @@ reading-calls = record {
       ap readingIn (sym is) ∙ by-bytes (now (a .1 .0)) (λ es. a .0 .0 + taiMinusGps) (λ es. gpsToCivil es (a .0 .0)) p
       ∙ of-image gpsToCivil size {n = g} q))
       (λ c. allowed _ (λ κ a x e q (d, is, p).
-      ap gpsIn (sym is)
+      ap countIn (sym is)
       ∙ by-bytes (now (a .1 .0)) (λ es. valueIn 0 (civilToGps es (a .0)) + taiMinusGps) (λ es. civilToGps es (a .0)) p
       ∙ of-image civilToGps size {n = c} q));
   built-in =

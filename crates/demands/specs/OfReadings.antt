@@ -7,6 +7,7 @@ use Prim.Native.Nat.{ℕ, _^_, _≤_, _<_}
 use denote.Ref.{now}
 use lib.ListN.{length}
 use Rattle.refusals.specs.Outcome.{Outcome, unless}
+use Rattle.counts.specs.Answers.{countIn}
 use Rattle.scales.specs.Answers.{gpsIn}
 use Rattle.civil.specs.Fields.{fields}
 use Rattle.civil.specs.declared.CivilDateTime.{CivilDateTime}
@@ -43,7 +44,7 @@ pub record ReadingCalls : Type 0 where
   -- `readings::by_image::gps_to_civil` and `civil_to_gps`, by an image
   pub in-place : (b : List ℕ) → length b ≡ imageBytes → OnDays (tableIn b) → CivilReadingsOf (entriesOf (tableIn b))
       (λ g. Allows image-gps-to-civil.Post (λ κ a. (a .0 .0 ≡ g) × (now (a .1 .0) ≡ b)) (λ κ r e. readingIn r))
-      (λ c. Allows image-civil-to-gps.Post (λ κ a. (a .0 ≡ c) × (now (a .1 .0) ≡ b)) (λ κ r e. gpsIn r))
+      (λ c. Allows image-civil-to-gps.Post (λ κ a. (a .0 ≡ c) × (now (a .1 .0) ≡ b)) (λ κ r e. countIn r))
   -- `readings::by_builtin::gps_to_civil` and `civil_to_gps`
   pub built-in : CivilReadingsOf builtin
       (λ g. Allows builtin-gps-to-civil.Post (λ κ a. a .0 .0 ≡ g) (λ κ r e. readingIn r))

@@ -10,7 +10,6 @@ ghost use Rattle.images.specs.Image.{datedByImage};
 ghost use Rattle.readings.specs.Readings.{gpsToCivil, civilToGps};
 ghost use Rattle.plaitgate.specs.Tables.{datedAs, withStale};
 use crate::give;
-use crate::give::of_readings::dated_gps;
 use crate::give::of_readings::dated_reading;
 use crate::give::of_readings::reading;
 use civil::CivilDateTime;
@@ -129,5 +128,5 @@ pub extern "C" fn plaitgate_table_civil_to_gps(
         second,
         nanos,
     };
-    dated_gps(by_image::civil_to_gps(c, image), gps, stale)
+    give::dated_count(by_image::civil_to_gps(c, image), gps, stale)
 }

@@ -1,7 +1,7 @@
 -- Each call of this crate leaves one answer for each input.
 use Rattle.refusals.proofs.OneAnswer.{OneAnswer, viewed}
 use Rattle.scales.proofs.Tells.{gps-tells}
-use Rattle.conversions.proofs.Tells.{dated-gps-tells}
+use Rattle.conversions.proofs.Tells.{dated-tells}
 use Rattle.readings.proofs.Tells.{reading-tells, dated-reading-tells}
 use Rattle.readings.proofs.by_builtin.gps_to_civil.Reads as builtin-gps-to-civil-contract
 use Rattle.readings.proofs.by_builtin.civil_to_gps.Reads as builtin-civil-to-gps-contract
@@ -18,4 +18,4 @@ pub image-gps-to-civil : OneAnswer image-gps-to-civil-contract.Post
 image-gps-to-civil κ a x y e f p q = viewed dated-reading-tells x y p q
 
 pub image-civil-to-gps : OneAnswer image-civil-to-gps-contract.Post
-image-civil-to-gps κ a x y e f p q = viewed dated-gps-tells x y p q
+image-civil-to-gps κ a x y e f p q = viewed dated-tells x y p q

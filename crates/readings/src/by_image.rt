@@ -5,18 +5,18 @@ ghost use mathlib.Core.Path.{_≡_};
 ghost use Prim.Native.Nat.{_+_};
 ghost use Rattle.refusals.specs.Outcome.{valueIn};
 ghost use Rattle.scales.specs.Scales.{taiMinusGps};
-ghost use Rattle.conversions.specs.Answers.{datedGpsIn};
+ghost use Rattle.conversions.specs.Answers.{datedIn};
 ghost use Rattle.images.specs.Image.{datedByImage};
 ghost use Rattle.readings.specs.Readings.{gpsToCivil, civilToGps};
 ghost use Rattle.readings.specs.Answers.{datedReadingIn};
 use crate::DatedReading;
 use crate::ReadingAnswer;
 use crate::inner::back;
-use crate::inner::date_gps;
 use crate::inner::date_reading;
 use crate::inner::read;
 use civil::CivilDateTime;
-use conversions::DatedGps;
+use conversions::inner::dated::DatedCount;
+use conversions::inner::dated::date;
 use conversions::inner::first_reading_of;
 use conversions::inner::gps_from_lookup;
 use conversions::inner::last_reading_of;
@@ -53,8 +53,8 @@ pub fn gps_to_civil(gps: Gps, image: &[u8]) -> DatedReading
 
 // Refuses 8, 13, then 14 where the second is 60 and no GPS count is read so, then 1. Any other fields go by the lenient
 // formula, and to the later of two GPS counts. The first of them is found as by `images::table::gps_from_utc`.
-pub fn civil_to_gps(fields: CivilDateTime, image: &[u8]) -> DatedGps
-    ensures { λ r. ⌜ datedGpsIn r ≡
+pub fn civil_to_gps(fields: CivilDateTime, image: &[u8]) -> DatedCount
+    ensures { λ r. ⌜ datedIn r ≡
         datedByImage (now (image .entry)) (λ es. valueIn 0 (civilToGps es fields) + taiMinusGps)
         (λ es. civilToGps es fields) ⌝ }
 {
@@ -63,15 +63,15 @@ pub fn civil_to_gps(fields: CivilDateTime, image: &[u8]) -> DatedGps
     match checked_look_up(image, a) {
         LookupAnswer::Told(told) => {
             if !is_on_days(image) {
-                return date_gps(CountAnswer::Refused(Refusal::NotOnDays), false);
+                return date(CountAnswer::Refused(Refusal::NotOnDays), false);
             }
             let b = last_reading_of(utc, told, a);
             let first = gps_from_lookup(look_up(image, b), utc);
             let found = look_up(image, reading_of(tai_of(first)));
             let gps = back(fields, utc, first, found);
             let stale = is_stale(expiry(image), reading_of(tai_of(gps)));
-            date_gps(gps, stale)
+            date(gps, stale)
         }
-        LookupAnswer::Refused(why) => date_gps(CountAnswer::Refused(why), false),
+        LookupAnswer::Refused(why) => date(CountAnswer::Refused(why), false),
     }
 }

@@ -5,7 +5,6 @@ ghost use Rattle.refusals.specs.Outcome.{valueIn, then, changed};
 ghost use Rattle.counts.specs.Answers.{countIn};
 ghost use Rattle.counts.specs.Units.{second};
 ghost use Rattle.tables.specs.Expiry.{dated};
-ghost use Rattle.conversions.specs.Answers.{datedGpsIn};
 ghost use Rattle.conversions.specs.ByLookup.{utcFromLookup};
 ghost use Rattle.readings.specs.Readings.{sameFields};
 ghost use Rattle.readings.specs.ByLookup.{nearBefore, inFirstSecond, sixty, readingFrom, laterFrom, readSoFrom, backFrom};
@@ -13,8 +12,6 @@ ghost use Rattle.readings.specs.Answers.{readingIn, datedReadingIn};
 use crate::DatedReading;
 use crate::ReadingAnswer;
 use civil::CivilDateTime;
-use conversions::DatedGps;
-use conversions::inner::dated::date;
 use conversions::inner::reading_of;
 use conversions::inner::tai_of;
 use conversions::inner::utc_from_lookup;
@@ -22,7 +19,6 @@ use counts::CountAnswer;
 use counts::sums;
 use counts::units::NANOS_PER_SECOND;
 use refusals::Refusal;
-use scales::gps::GpsAnswer;
 use tables::Lookup;
 use tables::LookupAnswer;
 use tables::Threshold;
@@ -179,17 +175,5 @@ pub fn date_reading(answer: ReadingAnswer, stale: bool) -> DatedReading
             answer: ReadingAnswer::Refused(why),
             stale: false,
         },
-    }
-}
-
-// The same of a GPS count.
-pub fn date_gps(gps: CountAnswer, stale: bool) -> DatedGps
-    ensures { λ r. ⌜ datedGpsIn r ≡ dated stale (countIn gps) ⌝ }
-{
-    let found = date(gps, stale);
-    let answer = found.answer;
-    DatedGps {
-        answer: GpsAnswer::of(answer),
-        stale: found.stale,
     }
 }

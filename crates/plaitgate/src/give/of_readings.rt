@@ -1,18 +1,15 @@
-// Civil readings, and the GPS counts of fields.
+// Civil readings.
 ghost use mathlib.Core.Path.{_≡_};
 ghost use lib.IntN.{pos};
 ghost use Rattle.refusals.specs.Outcome.{Gives};
 ghost use Rattle.civil.specs.Fields.{fields};
-ghost use Rattle.conversions.specs.Answers.{datedGpsIn};
 ghost use Rattle.readings.specs.Answers.{readingIn, datedReadingIn};
 ghost use Rattle.plaitgate.specs.Tables.{datedAs, withStale};
 use crate::give::byte;
 use crate::give::civil;
 use civil::CivilDateTime;
-use conversions::DatedGps;
 use readings::DatedReading;
 use readings::ReadingAnswer;
-use scales::gps::GpsAnswer;
 
 // The fields with a refusal.
 fn no_fields() -> CivilDateTime
@@ -81,25 +78,6 @@ pub fn dated_reading(
         ReadingAnswer::Refused(r) => {
             *stale = 0;
             civil(no_fields(), year, month, day, hour, minute, second, nanos);
-            r.number()
-        }
-    }
-}
-
-pub fn dated_gps(found: DatedGps, out: &mut u64, stale: &mut u8) -> u32
-    ensures { λ r. ⌜ Gives (datedAs 0 0) (withStale (datedGpsIn found)) r
-        (datedAs (now (out .exit)) (now (stale .exit))) ⌝ }
-{
-    let answer = found.answer;
-    match answer {
-        GpsAnswer::Count(gps) => {
-            *out = gps.0;
-            *stale = byte(found.stale);
-            0
-        }
-        GpsAnswer::Refused(r) => {
-            *out = 0;
-            *stale = 0;
             r.number()
         }
     }

@@ -24,7 +24,7 @@ returns c =
     gives-same (datedAs 0 0)
     (ap withStale (c .before .before .before .civil-to-gps .ensures
     ∙ ap (λ (y : ℤ). by (fields y (a .month) (a .day) (a .hour) (a .minute) (a .second) (a .nanos))) (toZ-ofZ (start .fits .year))))
-    (c .dated-gps .ensures)
+    (c .dated-count .ensures)
 
 pub plaitgate-table-civil-to-gps-spec : {M : Type 1} → call.Statement.statement M
 plaitgate-table-civil-to-gps-spec = call.Tie.close (call.Tie.spec (search) (search) returns)

@@ -54,7 +54,7 @@ returns c =
     let a = start tested .args in
     let b = now (a .image) in
     let off : onDays (es b) ≡ false = sym (days .is-on-days .ensures) ∙ not-true _ (c .before .if1 .taken) in
-    c .date-gps .ensures
+    c .date .ensures
     ∙ by-held b (λ es. valueIn 0 (civilToGps es (a .fields)) + taiMinusGps) (λ es. civilToGps es (a .fields)) (known tested)
     (rw off)
 
@@ -92,7 +92,7 @@ returns-2 c =
     let reads = stale .is-stale .ensures
     ∙ (λ i. staleAt ((expiry .expiry .ensures ∙ of-image b (k .size)) i)
     ((reading-2 .reading-of2 .ensures ∙ ap (valueIn 0) tai-is) i)) in
-    c .date-gps2 .ensures
+    c .date2 .ensures
     ∙ by-held b (λ es. valueIn 0 (civilToGps es (a .fields)) + taiMinusGps) (λ es. civilToGps es (a .fields)) k
     ((λ i. dated (reads i) (counts i))
     ∙ at-answer x (civilToGps (es b) (a .fields)) (has-reading (es b) on (a .fields)))
@@ -103,7 +103,7 @@ returns-3 c =
     let a = found .before .before .before .before .args in
     let b = now (a .image) in
     let answer = sym (ap lookupIn (c .before .before .why .given .1)) ∙ found .checked-look-up .ensures in
-    c .date-gps3 .ensures
+    c .date3 .ensures
     ∙ not-told b (λ es. valueIn 0 (civilToGps es (a .fields)) + taiMinusGps) (λ es. civilToGps es (a .fields)) _ answer
 
 pub civil-to-gps-spec : {M : Type 1} → call.Statement.statement M
