@@ -9,7 +9,7 @@ use native.Mathlib.Decide.{decLe}
 use borrow.Author.Tests.{le-leb, lt-leb}
 use lib.Dec.{leb}
 use lib.IntN.{pos}
-use lib.ListN.{drop}
+use lib.ListN.{length, drop}
 use Rattle.calendar.specs.Formula.{formula, era, yoe, doy, doe}
 use Rattle.tables.specs.Entries.{Entry, threshold, entry, neighbours, firstThreshold, lookup}
 use Rattle.tables.specs.declared.Place.the-variants as place
@@ -17,6 +17,10 @@ use Rattle.tables.specs.declared.Threshold.{Threshold}
 use Rattle.tables.proofs.Reached as entries
 use Rattle.builtin.specs.Builtin.{builtin, events, thresholdOf, entriesFrom}
 use Rattle.builtin.specs.Reached.{countReached, eventsTo1993, eventsFrom1994, firstOf, toldAt}
+
+pub eighteen : length (eventsTo1993 ++ eventsFrom1994) ≡ 18
+unfolding eventsTo1993 eventsFrom1994
+eighteen = refl
 
 -- a test as a number, two ways
 bit : (x t : ℕ) → 1 - (x - t) ≡ cond (leb x t) 1 0

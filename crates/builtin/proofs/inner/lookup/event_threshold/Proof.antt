@@ -1,16 +1,13 @@
 -- `inner::lookup::event_threshold` is the list of the thresholds, one by one, and 0 past its end.
-use mathlib.Core.Path.{_≡_, refl, sym, ap}
+use mathlib.Core.Path.{_≡_, sym, ap}
 use mathlib.Core.List.{_++_}
 use Prim.Native.Nat.{ℕ, _≤_}
 use native.Mathlib.Omega.{arith}
-use lib.ListN.{length, getD, List·getD-eq-default}
+use lib.ListN.{List·getD-eq-default}
 use Rattle.counts.proofs.NoneOf.{at-least}
 use Rattle.builtin.specs.Reached.{eventsTo1993, eventsFrom1994, eventAt}
+use Rattle.builtin.proofs.Counted.{eighteen}
 use Rattle.builtin.proofs.inner.lookup.event_threshold as call
-
-eighteen : length (eventsTo1993 ++ eventsFrom1994) ≡ 18
-unfolding eventsTo1993 eventsFrom1994
-eighteen = refl
 
 past-all : (n : ℕ) → 19 ≤ n → 0 ≡ eventAt n
 past-all n l = sym (List·getD-eq-default (eventsTo1993 ++ eventsFrom1994) 0 {n = n} (omega (arith, eighteen)))

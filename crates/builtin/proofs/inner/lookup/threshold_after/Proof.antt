@@ -1,18 +1,15 @@
 -- `inner::lookup::threshold_after` is the threshold of the next event, and nothing after the last.
-use mathlib.Core.Path.{_≡_, refl, sym, ap, _∙_}
+use mathlib.Core.Path.{_≡_, sym, ap, _∙_}
 use mathlib.Core.List.{_++_}
 use Prim.Native.Nat.{ℕ, _≤_, _<_}
 use native.Mathlib.Omega.{arith}
 use borrow.Author.Needs.{needs}
-use lib.ListN.{length, drop-of-length-le}
+use lib.ListN.{drop-of-length-le}
 use lib.Seq.{drop-cons}
 use Rattle.tables.specs.declared.Threshold.the-variants as next
 use Rattle.builtin.specs.Reached.{eventsTo1993, eventsFrom1994, firstOf, eventAt, eventAfter}
+use Rattle.builtin.proofs.Counted.{eighteen}
 use Rattle.builtin.proofs.inner.lookup.threshold_after as call
-
-eighteen : length (eventsTo1993 ++ eventsFrom1994) ≡ 18
-unfolding eventsTo1993 eventsFrom1994
-eighteen = refl
 
 there : (n : ℕ) → n < 18 → next.At (eventAt n) ≡ eventAfter n
 there n l = sym (ap firstOf (drop-cons (eventsTo1993 ++ eventsFrom1994) n 0 (omega (arith, eighteen))))
