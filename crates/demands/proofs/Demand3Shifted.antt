@@ -1,9 +1,8 @@
 -- Written by tools/write-scales from its template in tools/templates.
 -- Demand 3 of the calls between UTC and a scale at a fixed difference: by their contracts they answer what
 -- `shiftedToUtc` and `utcToShifted` say, and Shifted.antt proves it of these for any difference.
-use mathlib.Core.Path.{_≡_, refl, sym, ap, _∙_}
-use mathlib.Core.Bool.{true}
-use Prim.Native.Nat.{ℕ, _+_}
+use mathlib.Core.Path.{refl, sym, ap, _∙_}
+use Prim.Native.Nat.{_+_}
 use denote.Ref.{now}
 use Rattle.refusals.specs.Outcome.{valueIn, then}
 use Rattle.refusals.proofs.Given.{told-is}
@@ -11,13 +10,10 @@ use Rattle.counts.specs.Answers.{countIn}
 use Rattle.scales.specs.Answers.{utcIn, galileoIn, beidouIn}
 use Rattle.scales.specs.Scales.{taiMinusGps, gpsMinusGalileo, gpsMinusBeidou}
 use Rattle.tables.specs.Slots.{entriesOf, ofValid}
-use Rattle.tables.specs.declared.LeapTable.{LeapTable}
 use Rattle.images.specs.Image.{tableIn, byImage}
 use Rattle.conversions.specs.Shifted.{shiftedToUtc, utcToShifted, shiftedReading}
 use Rattle.builtin.specs.Builtin.{builtin}
 use Rattle.builtin.proofs.Regular.{builtin-regular}
-use Rattle.demands.specs.TwoInstants.{TwoInstants}
-use Rattle.demands.specs.OfCalls.{Regular}
 use Rattle.demands.specs.OfShifted.{Demand3Shifted}
 use Rattle.demands.proofs.AnswerOrRefusal.{shifted-to-utc-numbered, utc-to-shifted-numbered}
 use Rattle.demands.proofs.Demand3.{of-pair, of-table, by-table, by-bytes, allowed, of-image, as-told}

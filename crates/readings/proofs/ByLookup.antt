@@ -6,7 +6,7 @@ use mathlib.Core.Bool.{Bool, true, false, cond, _&&_, and-false}
 use mathlib.Core.List.{List, List·Memᴰ}
 use Prim.Native.Nat.{ℕ, _+_, _*_, _-_, _/_, _%_, _^_, _≤_, _<_}
 use native.Mathlib.Omega.{arith}
-use native.Mathlib.Decide.{decLe, decLt}
+use native.Mathlib.Decide.{decLt}
 use borrow.Author.Tests.{lt-ltb, le-ltb, eq-eqb, ne-eqb}
 use lib.Dec.{eqb, ltb}
 use lib.ListN.{drop}
@@ -25,7 +25,7 @@ use Rattle.civil.specs.Fields.{fields, dateIn, fieldsOn, fieldsOf, timeOf, coun
 use Rattle.civil.specs.declared.CivilDateTime.{CivilDateTime}
 use Rattle.tables.specs.Entries.{Entry, threshold, regular, day, onDays, lookup}
 use Rattle.tables.specs.declared.Lookup.{Lookup}
-use Rattle.conversions.specs.Conversions.{E, gpsToUtc, utcToGps}
+use Rattle.conversions.specs.Conversions.{gpsToUtc, utcToGps}
 use Rattle.conversions.specs.ByLookup.{utcFromLookup}
 use Rattle.conversions.specs.Shifted.{sameAnswer, laterOf}
 use Rattle.conversions.proofs.ByLookup.{by-reading}

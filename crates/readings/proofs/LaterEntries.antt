@@ -1,21 +1,19 @@
 -- The entries after the first of a regular list, from the laws of the thresholds passed: whether the next threshold is
 -- a second on at most, and, where each begins a day, that thresholds are whole days and the offset in seconds.
 use mathlib.Core.Path.{_≡_, refl, sym, ap, _∙_}
-use mathlib.Core.Bool.{true, _&&_}
+use mathlib.Core.Bool.{true}
 use mathlib.Core.List.{List, [], _∷_, List·Memᴰ, List·Memᴰ·head, List·Memᴰ·tail}
 use Prim.Native.Nat.{ℕ, suc, _+_, _*_, _-_, _/_, _%_, _≤_}
 use native.Mathlib.Omega.{arith}
 use native.Mathlib.Decide.{decLe}
-use borrow.Author.Tests.{le-leb, lt-leb, leb-true, lt-ltb, le-ltb, eqb-true}
-use lib.Dec.{leb, ltb, eqb, leb·suc-suc}
+use borrow.Author.Tests.{le-leb, lt-leb, lt-ltb, le-ltb, eqb-true}
+use lib.Dec.{ltb, leb·suc-suc}
 use lib.ListN.{length, drop}
-use lib.IntN.{ℤ, pos, natAbs, _-ℤ_, _*ℤ_}
+use lib.IntN.{pos}
 use Rattle.counts.specs.Units.{second}
-use Rattle.counts.proofs.Difference.{not-below, of-naturals}
-use Rattle.tables.specs.Entries.{Entry, threshold, offset, equal, neighbours, valid, aDayOn, begins, regular, day}
-use Rattle.tables.specs.Entries.{beginsADay, onDays, firstThreshold, lookup, inForce}
+use Rattle.tables.specs.Entries.{Entry, threshold, offset, neighbours, begins, regular, day}
+use Rattle.tables.specs.Entries.{beginsADay, onDays, firstThreshold, lookup}
 use Rattle.tables.specs.declared.Lookup.{Lookup}
-use Rattle.tables.proofs.Integers.{equal-true}
 use Rattle.tables.proofs.Neighbours.{both}
 use Rattle.tables.proofs.Reached.{Chain, reached, of-regular, none-within-a-day}
 use Rattle.tables.proofs.OnDays.{begins-when}

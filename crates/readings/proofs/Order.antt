@@ -1,7 +1,7 @@
 -- Civil readings rise with GPS counts, so that no two counts have one reading: from the walk over days and the order
 -- of dates and of times of day. And fields that are the same one by one are the same.
 use mathlib.Core.Path.{_≡_, refl, sym, _∙_}
-use mathlib.Core.Bool.{Bool, true, false, cond}
+use mathlib.Core.Bool.{Bool, true, false, cond, false≢true}
 use mathlib.Core.List.{List, [], _∷_}
 use mathlib.Core.Logic.{inl, inr, _↔_}
 use Prim.Native.Nat.{ℕ, _+_, _*_, _/_, _%_, _≤_, _<_}
@@ -121,7 +121,7 @@ pub no-two : (es : List Entry) (g g′ : ℕ) → readingOf es g ≡ readingOf e
 no-two es g g′ same = by-order (decLt g g′) (decLt g′ g)
   where
     not-both : {b : Bool} → b ≡ true → b ≡ false → ⊥
-    not-both e f = let z : _≡_ {A = ℕ} 0 1 = cc in omega arith
+    not-both e f = false≢true (sym f ∙ e)
 
     by-order : Dec (g < g′) → Dec (g′ < g) → g ≡ g′
     by-order (yes l) d = absurd (not-both (rises es g g′ l) (rw same (never-earlier (readingOf es g′))))

@@ -2,7 +2,7 @@
 ghost use mathlib.Core.Path.{_≡_};
 ghost use mathlib.Core.Bool.{true, cond};
 ghost use mathlib.Core.List.{[]};
-ghost use Prim.Native.Nat.{ℕ, _+_, _-_, _≤_, _<_, min};
+ghost use Prim.Native.Nat.{_+_, _-_, _≤_, _<_, min};
 ghost use lib.Dec.{leb, eqb, ltb};
 ghost use lib.ListN.{length, getD};
 ghost use Rattle.refusals.specs.Outcome.{answered, changed};

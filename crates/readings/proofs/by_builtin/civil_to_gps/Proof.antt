@@ -1,8 +1,7 @@
 -- `by_builtin::civil_to_gps`: the first GPS count that has the fields' UTC count, and a lookup at its TAI reading.
 use mathlib.Core.Path.{ap, _∙_}
-use Prim.Native.Nat.{ℕ}
 use borrow.Author.Needs.{needs}
-use Rattle.refusals.specs.Outcome.{Outcome, valueIn}
+use Rattle.refusals.specs.Outcome.{valueIn}
 use Rattle.builtin.specs.Builtin.{builtin}
 use Rattle.builtin.proofs.Regular.{builtin-on-days}
 use Rattle.readings.proofs.ByLookup.{back-by}
