@@ -60,7 +60,17 @@ enum plaitgate_refusal {
     /* a table to read civil times by is not regular, or an entry after its first does not begin a day */
     PLAITGATE_NOT_ON_DAYS = 13,
     /* fields with second 60 that are the civil reading of no GPS count */
-    PLAITGATE_NO_INSERTED_SECOND = 14
+    PLAITGATE_NO_INSERTED_SECOND = 14,
+    /* a month that is not 1 to 12 */
+    PLAITGATE_NO_SUCH_MONTH = 15,
+    /* a day that its month does not have */
+    PLAITGATE_NO_SUCH_DAY = 16,
+    /* an hour above 23 */
+    PLAITGATE_NO_SUCH_HOUR = 17,
+    /* a minute above 59 */
+    PLAITGATE_NO_SUCH_MINUTE = 18,
+    /* a second above 60 */
+    PLAITGATE_NO_SUCH_SECOND = 19
 };
 
 /* every scale, by tools/write-scales */
@@ -448,8 +458,9 @@ uint32_t plaitgate_civil_from_utc_nanos(uint64_t count, int32_t *year, uint8_t *
 uint32_t plaitgate_utc_to_civil(uint64_t count, int32_t *year, uint8_t *month, uint8_t *day, uint8_t *hour,
                                 uint8_t *minute, uint8_t *second, uint32_t *nanos);
 
-/* The nanoseconds from 1972-01-01 to a date and a time of day. No field is checked: hour 24 is the next day's hour 0.
-   Refuses with 1 where the date is before 1972-01-01, or the sum above 64 bits. */
+/* The nanoseconds from 1972-01-01 to a date and a time of day. It is for old logs, and no field is checked: hour 24 is the
+   next day's hour 0, and 31 February is in March. plaitgate_builtin_civil_to_gps refuses such fields. Refuses with 1 where
+   the date is before 1972-01-01, or the sum above 64 bits. */
 uint32_t plaitgate_civil_to_utc_nanos(int32_t year, uint8_t month, uint8_t day, uint8_t hour, uint8_t minute,
                                       uint8_t second, uint32_t nanos, uint64_t *count);
 
@@ -701,10 +712,11 @@ uint32_t plaitgate_table_gps_as_unix_seconds(uint64_t gps, const uint8_t *image,
 uint32_t plaitgate_builtin_gps_to_civil(uint64_t gps, int32_t *year, uint8_t *month, uint8_t *day, uint8_t *hour,
                                         uint8_t *minute, uint8_t *second, uint32_t *nanos);
 
-/* The GPS count of a date and a time of day by the built-in table. Where second is 60, it is the count whose reading is
-   these fields; refuses with 14 where there is none. Else no field is checked: it is the GPS count of the UTC count that
-   plaitgate_civil_to_utc_nanos gives, the later where there are two; refuses as that call, then with 1 before
-   1980-01-06. */
+/* The GPS count of a date and a time of day by the built-in table: the count whose reading is these fields. Refuses fields
+   that do not exist, by the first that is out of range: month with 15, day with 16 (31 February; 29 February of 2023),
+   hour with 17, minute with 18, second above 60 with 19, nanos with 11. Then refuses with 14 a second of 60 that is the
+   reading of no count, and any other fields with 1 before 1980-01-06 and past the range of counts.
+   plaitgate_civil_to_utc_nanos takes any fields. */
 uint32_t plaitgate_builtin_civil_to_gps(int32_t year, uint8_t month, uint8_t day, uint8_t hour, uint8_t minute,
                                         uint8_t second, uint32_t nanos, uint64_t *gps);
 

@@ -24,6 +24,11 @@ numbered k =
     refusal.BadList ∷
     refusal.NotOnDays ∷
     refusal.NoInsertedSecond ∷
+    refusal.NoSuchMonth ∷
+    refusal.NoSuchDay ∷
+    refusal.NoSuchHour ∷
+    refusal.NoSuchMinute ∷
+    refusal.NoSuchSecond ∷
     [])
     (k - 1)
     refusal.Overflow
@@ -44,3 +49,8 @@ numbered-again refusal.InvalidNanos = refl
 numbered-again refusal.BadList = refl
 numbered-again refusal.NotOnDays = refl
 numbered-again refusal.NoInsertedSecond = refl
+numbered-again refusal.NoSuchMonth = refl
+numbered-again refusal.NoSuchDay = refl
+numbered-again refusal.NoSuchHour = refl
+numbered-again refusal.NoSuchMinute = refl
+numbered-again refusal.NoSuchSecond = refl

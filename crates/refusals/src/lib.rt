@@ -32,6 +32,16 @@ pub enum Refusal {
     NotOnDays,
     // fields with second 60 that are the civil reading of no GPS count
     NoInsertedSecond,
+    // a month that is not 1 to 12
+    NoSuchMonth,
+    // a day that its month does not have
+    NoSuchDay,
+    // an hour above 23
+    NoSuchHour,
+    // a minute above 59
+    NoSuchMinute,
+    // a second above 60
+    NoSuchSecond,
 }
 
 impl Refusal {
@@ -54,6 +64,11 @@ impl Refusal {
             Refusal::BadList => 12,
             Refusal::NotOnDays => 13,
             Refusal::NoInsertedSecond => 14,
+            Refusal::NoSuchMonth => 15,
+            Refusal::NoSuchDay => 16,
+            Refusal::NoSuchHour => 17,
+            Refusal::NoSuchMinute => 18,
+            Refusal::NoSuchSecond => 19,
         }
     }
 }
