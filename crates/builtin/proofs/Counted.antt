@@ -1,10 +1,10 @@
 -- What is in force by the built-in table is told by the number of events that the reading has passed.
-use mathlib.Core.Path.{_≡_, refl, sym, ap, _∙_}
+use mathlib.Core.Path.{_≡_, refl, ap, _∙_}
 use mathlib.Core.Bool.{cond}
-use mathlib.Core.List.{List, [], _∷_, _++_, map}
+use mathlib.Core.List.{List, [], _∷_, map}
 use Prim.Native.Nat.{ℕ, zero, suc, _+_, _-_, _≤_}
 use native.Mathlib.Omega.{arith}
-use native.Mathlib.Nat.{zero-add, add-assoc}
+use native.Mathlib.Nat.{zero-add}
 use native.Mathlib.Decide.{decLe}
 use borrow.Author.Tests.{le-leb, lt-leb}
 use lib.Dec.{leb}
@@ -16,10 +16,10 @@ use Rattle.tables.specs.declared.Place.the-variants as place
 use Rattle.tables.specs.declared.Threshold.{Threshold}
 use Rattle.tables.proofs.Reached as entries
 use Rattle.builtin.specs.Builtin.{builtin, events, thresholdOf, entriesFrom}
-use Rattle.builtin.specs.Reached.{countReached, eventsTo1993, eventsFrom1994, firstOf, toldAt}
+use Rattle.builtin.specs.Reached.{countReached, eventThresholds, firstOf, toldAt}
 
-pub eighteen : length (eventsTo1993 ++ eventsFrom1994) ≡ 18
-unfolding eventsTo1993 eventsFrom1994
+pub eighteen : length eventThresholds ≡ 18
+unfolding eventThresholds
 eighteen = refl
 
 -- a test as a number, two ways
@@ -35,13 +35,6 @@ unfolding countReached entries.reached
 of-entries [] t = refl
 of-entries (e ∷ es) t = λ i. bit (threshold e) t i + of-entries es t i
 
-pub of-both : (t : ℕ) (xs ys : List ℕ) → countReached t (xs ++ ys) ≡ countReached t xs + countReached t ys
-unfolding countReached
-of-both t [] ys = sym (zero-add (countReached t ys))
-of-both t (x ∷ xs) ys =
-    ap (λ (n : ℕ). cond (leb x t) 1 0 + n) (of-both t xs ys)
-    ∙ sym (add-assoc (cond (leb x t) 1 0) (countReached t xs) (countReached t ys))
-
 -- the entries after the first
 unfoldable pub later : List Entry
 later = entriesFrom 20 events
@@ -53,8 +46,8 @@ pub chained : entries.Chain first later
 unfolding first later events thresholdOf entriesFrom formula era yoe doy doe neighbours
 chained = entries.chain first later refl refl
 
-thresholds-are : map threshold later ≡ eventsTo1993 ++ eventsFrom1994
-unfolding later events thresholdOf entriesFrom formula era yoe doy doe eventsTo1993 eventsFrom1994
+thresholds-are : map threshold later ≡ eventThresholds
+unfolding later events thresholdOf entriesFrom formula era yoe doy doe eventThresholds
 thresholds-are = refl
 
 -- the next threshold of entries is that of their thresholds
@@ -72,7 +65,5 @@ in-force t =
     ∙ ap (λ (y : Threshold). record { offset = pos (19 + k); place = place.At k; next = y })
     (next-of k later ∙ ap (λ (xs : List ℕ). firstOf (drop k xs)) thresholds-are)
 
-pub counted : (t : ℕ) → lookup builtin t ≡ toldAt (countReached t eventsTo1993 + countReached t eventsFrom1994)
-counted t =
-    in-force t
-    ∙ ap toldAt (of-entries later t ∙ ap (countReached t) thresholds-are ∙ of-both t eventsTo1993 eventsFrom1994)
+pub counted : (t : ℕ) → lookup builtin t ≡ toldAt (countReached t eventThresholds)
+counted t = in-force t ∙ ap toldAt (of-entries later t ∙ ap (countReached t) thresholds-are)

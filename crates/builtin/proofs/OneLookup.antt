@@ -1,7 +1,7 @@
 -- The two lookups of UTC to GPS by the built-in table are one: the last one is told by the number of events that the
 -- UTC count is a second past.
 use mathlib.Core.Path.{_≡_, refl, sym, ap, _∙_}
-use mathlib.Core.List.{List, [], _∷_, _++_, map}
+use mathlib.Core.List.{List, [], _∷_, map}
 use Prim.Native.Nat.{ℕ, suc, _+_, _-_, _*_, _^_, _≤_, _<_}
 use native.Mathlib.Omega.{arith}
 use native.Mathlib.Decide.{decLe}
@@ -16,8 +16,8 @@ use Rattle.tables.proofs.Reached as entries
 use Rattle.conversions.specs.Conversions.{E, firstReading, secondReading, lastReading}
 use Rattle.conversions.proofs.SinceEpoch.{since, before}
 use Rattle.builtin.specs.Builtin.{builtin, events, thresholdOf, entriesFrom}
-use Rattle.builtin.specs.Reached.{countReached, pastTo1993, pastFrom1994, toldAt}
-use Rattle.builtin.proofs.Counted.{later, first, chained, in-force, of-entries, of-both}
+use Rattle.builtin.specs.Reached.{countReached, pastEvents, toldAt}
+use Rattle.builtin.proofs.Counted.{later, first, chained, in-force, of-entries}
 
 -- entries with the UTC counts a second past their events, where k events are before them
 moved : ℕ → List Entry → List Entry
@@ -73,18 +73,18 @@ few-later : 0 + length later ≤ 63
 unfolding later entriesFrom events
 few-later = lit≤ tt
 
-moved-are : map threshold (moved 0 later) ≡ pastTo1993 ++ pastFrom1994
-unfolding moved later events thresholdOf entriesFrom formula era yoe doy doe pastTo1993 pastFrom1994
+moved-are : map threshold (moved 0 later) ≡ pastEvents
+unfolding moved later events thresholdOf entriesFrom formula era yoe doy doe pastEvents
 moved-are = refl
 
 module _ (u : ℕ) (count : u < 2 ^ 64) where
-  past : entries.reached (moved 0 later) u ≡ countReached u pastTo1993 + countReached u pastFrom1994
-  past = of-entries (moved 0 later) u ∙ ap (countReached u) moved-are ∙ of-both u pastTo1993 pastFrom1994
+  past : entries.reached (moved 0 later) u ≡ countReached u pastEvents
+  past = of-entries (moved 0 later) u ∙ ap (countReached u) moved-are
 
   -- by the two readings
   by-readings : (a b : ℕ) → firstReading u ≡ a → secondReading u (pos (19 + entries.reached later a)) a ≡ b
       → entries.reached later b ≡ entries.reached (moved 0 later) u
-      → lookup builtin (lastReading builtin u) ≡ toldAt (countReached u pastTo1993 + countReached u pastFrom1994)
+      → lookup builtin (lastReading builtin u) ≡ toldAt (countReached u pastEvents)
   by-readings a b ea eb same =
       ap (λ (x : ℕ). lookup builtin (secondReading u (offsetAt builtin x) x)) ea
       ∙ ap (λ (l : Lookup). lookup builtin (secondReading u (l .offset) a)) (in-force a)
@@ -92,13 +92,12 @@ module _ (u : ℕ) (count : u < 2 ^ 64) where
       ∙ in-force b
       ∙ ap toldAt (same ∙ past)
 
-  pub one-lookup : lookup builtin (lastReading builtin u)
-      ≡ toldAt (countReached u pastTo1993 + countReached u pastFrom1994)
+  pub one-lookup : lookup builtin (lastReading builtin u) ≡ toldAt (countReached u pastEvents)
   unfolding first
   one-lookup = by-time (decLe E (u + 19 * second))
     where
       by-time : Dec (E ≤ u + 19 * second)
-          → lookup builtin (lastReading builtin u) ≡ toldAt (countReached u pastTo1993 + countReached u pastFrom1994)
+          → lookup builtin (lastReading builtin u) ≡ toldAt (countReached u pastEvents)
       by-time (yes late) =
           let few = entries.few later (a u late) in
           by-readings (a u late) (a u late + (0 + entries.reached later (a u late)) * second)

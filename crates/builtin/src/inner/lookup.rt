@@ -1,8 +1,8 @@
 // The offset in force by the built-in table, and the conversions by it, on plain counts. The offset is 19 and one more
-// for each event at or before the reading: eighteen tests, which have no branch and read no table.
+// for each event at or before the reading. The reading's bucket tells how many events are before the bucket, and one
+// comparison whether the event in it, if there is one, is reached: two tables are read, and nothing branches.
 ghost use mathlib.Core.Path.{_≡_};
 ghost use mathlib.Core.Bool.{cond};
-ghost use mathlib.Core.List.{[], _∷_};
 ghost use Prim.Native.Nat.{_≤_};
 ghost use lib.Dec.{leb};
 ghost use Rattle.refusals.specs.Outcome.{then};
@@ -10,8 +10,7 @@ ghost use Rattle.counts.specs.Answers.{countIn};
 ghost use Rattle.tables.specs.Entries.{lookup};
 ghost use Rattle.conversions.specs.Conversions.{gpsToUtc};
 ghost use Rattle.builtin.specs.Builtin.{builtin};
-ghost use Rattle.builtin.specs.Reached.{countReached, eventsTo1993, eventsFrom1994, eventAt, eventAfter};
-ghost use Rattle.builtin.specs.Reached.{toldAt};
+ghost use Rattle.builtin.specs.Reached.{InBucket, eventsBefore, eventAt, eventAfter, toldAt};
 use conversions::inner;
 use counts::CountAnswer;
 use tables::Lookup;
@@ -59,82 +58,83 @@ pub const JANUARY_2017: u64 = 1_167_264_037_000_000_000;
 // How many events there are.
 const EVENTS: u64 = 18;
 
-fn reached(threshold: u64, tai: u64) -> u64
-    ensures is { λ r. ⌜ r ≡ cond (leb threshold tai) 1 0 ⌝ }
+// Counts are cut into 32 buckets of 2⁵⁵ ns, 417 days. Bucket 0 has every count before its start too, and bucket 31, which
+// holds the last event, every later count. For readings bucket 0 starts at 2⁵⁵ ns, and no bucket then holds two events.
+pub const BUCKET: u64 = 36_028_797_018_963_968;
+
+const LAST_BUCKET: u64 = 31;
+
+// The bucket of a count, where bucket 0 starts at `start`.
+pub fn bucket_of(count: u64, start: u64) -> u64
+    ensures { λ r. ⌜ InBucket start count r ⌝ }
+{
+    if count < start {
+        0
+    } else {
+        let bucket = (count - start) / BUCKET;
+        if bucket < LAST_BUCKET {
+            bucket
+        } else {
+            LAST_BUCKET
+        }
+    }
+}
+
+// How many events are before a bucket of readings. There is an arm for each of the 32 buckets, so that the compiler makes a
+// table of them, with no jump and no test of the number.
+pub fn events_before(bucket: u64) -> u64
+    requires { ⌜ bucket ≤ 31 ⌝ }
+    ensures { λ r. ⌜ r ≡ eventsBefore bucket ⌝ }
+{
+    match bucket {
+        0 => 0,
+        1 => 1,
+        2 => 2,
+        3 => 3,
+        4 => 4,
+        5 => 4,
+        6 => 5,
+        7 => 5,
+        8 => 6,
+        9 => 7,
+        10 => 8,
+        11 => 9,
+        12 => 10,
+        13 => 10,
+        14 => 11,
+        15 => 12,
+        16 => 13,
+        17 => 13,
+        18 => 13,
+        19 => 13,
+        20 => 13,
+        21 => 13,
+        22 => 14,
+        23 => 14,
+        24 => 14,
+        25 => 15,
+        26 => 15,
+        27 => 15,
+        28 => 16,
+        29 => 16,
+        30 => 16,
+        31 => 17,
+        _ => 17,
+    }
+}
+
+// 1 where a count has reached a threshold, and 0 where it has not.
+pub fn reached(threshold: u64, count: u64) -> u64
+    ensures is { λ r. ⌜ r ≡ cond (leb threshold count) 1 0 ⌝ }
     ensures few { λ r. ⌜ r ≤ 1 ⌝ }
 {
-    if threshold <= tai { 1 } else { 0 }
-}
-
-// How many of nine thresholds are at or before a reading.
-pub fn reached_of_nine(
-    t: u64,
-    a: u64,
-    b: u64,
-    c: u64,
-    d: u64,
-    e: u64,
-    f: u64,
-    g: u64,
-    h: u64,
-    i: u64,
-) -> u64
-    ensures is { λ r. ⌜ r ≡ countReached t (a ∷ b ∷ c ∷ d ∷ e ∷ f ∷ g ∷ h ∷ i ∷ []) ⌝ }
-    ensures few { λ r. ⌜ r ≤ 9 ⌝ }
-{
-    reached(a, t)
-        + reached(b, t)
-        + reached(c, t)
-        + reached(d, t)
-        + reached(e, t)
-        + reached(f, t)
-        + reached(g, t)
-        + reached(h, t)
-        + reached(i, t)
-}
-
-// How many of the first nine events are at or before a reading.
-fn events_to_1993(tai: u64) -> u64
-    ensures is { λ r. ⌜ r ≡ countReached tai eventsTo1993 ⌝ }
-    ensures few { λ r. ⌜ r ≤ 9 ⌝ }
-{
-    reached_of_nine(
-        tai,
-        JULY_1981,
-        JULY_1982,
-        JULY_1983,
-        JULY_1985,
-        JANUARY_1988,
-        JANUARY_1990,
-        JANUARY_1991,
-        JULY_1992,
-        JULY_1993,
-    )
-}
-
-// How many of the last nine.
-fn events_from_1994(tai: u64) -> u64
-    ensures is { λ r. ⌜ r ≡ countReached tai eventsFrom1994 ⌝ }
-    ensures few { λ r. ⌜ r ≤ 9 ⌝ }
-{
-    reached_of_nine(
-        tai,
-        JULY_1994,
-        JANUARY_1996,
-        JULY_1997,
-        JANUARY_1999,
-        JANUARY_2006,
-        JANUARY_2009,
-        JULY_2012,
-        JULY_2015,
-        JANUARY_2017,
-    )
+    if threshold <= count { 1 } else { 0 }
 }
 
 // The threshold of an event, counted from 0, and 0 past the last. The arms are plain numbers, and there is one for each
 // number of events that `event_at` gives, so that the compiler makes a table of them and no jump, which would be predicted
 // wrong.
-fn event_threshold(event: u64) -> u64
+pub fn event_threshold(event: u64) -> u64
     ensures { λ r. ⌜ r ≡ eventAt event ⌝ }
 {
     match event {
@@ -178,7 +178,8 @@ pub fn event_at(tai: u64) -> u64
     ensures is { λ r. ⌜ toldAt r ≡ lookup builtin tai ⌝ }
     ensures few { λ r. ⌜ r ≤ 18 ⌝ }
 {
-    events_to_1993(tai) + events_from_1994(tai)
+    let before = events_before(bucket_of(tai, BUCKET));
+    before + reached(event_threshold(before), tai)
 }
 
 // What the entry tells that is in force from an event on; 0 stands for the entry at reading 0. A lookup is
@@ -195,10 +196,17 @@ pub fn entry_told(event: u64) -> Lookup
     }
 }
 
+// A refused step is told apart before the lookup. After it, the compiler would test for one in each arm of `events_before`,
+// and make jumps of the table.
 pub fn utc_from_gps(gps: CountAnswer) -> CountAnswer
     ensures { λ r. ⌜ countIn r ≡ then (countIn gps) (gpsToUtc builtin) ⌝ }
 {
     let tai = inner::tai_of(gps);
-    let event = event_at(inner::reading_of(tai));
-    inner::utc_from_lookup(LookupAnswer::Told(entry_told(event)), tai)
+    match tai {
+        CountAnswer::Count(reading) => {
+            let told = entry_told(event_at(reading));
+            inner::utc_from_lookup(LookupAnswer::Told(told), tai)
+        }
+        CountAnswer::Refused(why) => CountAnswer::Refused(why),
+    }
 }

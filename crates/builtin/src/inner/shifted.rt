@@ -26,13 +26,24 @@ fn shifted_by_later(gps: u64, behind: u64) -> CountAnswer
     steps::down(later_of(gps, from_builtin()), behind)
 }
 
+// The same answer, copied part by part. The compiler copies an answer in memory as a whole, bytes between its parts included,
+// and for an answer that has just been put there in parts the processor then waits.
+fn by_parts(answer: CountAnswer) -> CountAnswer
+    ensures { λ r. ⌜ r ≡ answer ⌝ }
+{
+    match answer {
+        CountAnswer::Count(count) => CountAnswer::Count(count),
+        CountAnswer::Refused(why) => CountAnswer::Refused(why),
+    }
+}
+
 pub fn shifted_from_utc(utc: CountAnswer, behind: u64) -> CountAnswer
     ensures { λ r. ⌜ countIn r ≡ then (countIn utc) (utcToShifted behind builtin) ⌝ }
 {
     match gps_from_utc(utc) {
         CountAnswer::Count(gps) => {
             if gps < behind {
-                shifted_by_later(gps, behind)
+                by_parts(shifted_by_later(gps, behind))
             } else {
                 sums::minus(gps, behind)
             }
@@ -49,7 +60,7 @@ pub fn shifted_from_glonass(glonass: CountAnswer, behind: u64) -> CountAnswer
     match gps_from_utc(steps::utc_from_glonass(glonass)) {
         CountAnswer::Count(gps) => {
             if gps < behind {
-                shifted_by_later(gps, behind)
+                by_parts(shifted_by_later(gps, behind))
             } else {
                 sums::minus(gps, behind)
             }

@@ -1,23 +1,22 @@
 -- `inner::lookup::event_threshold` is the list of the thresholds, one by one, and 0 past its end.
 use mathlib.Core.Path.{_≡_, sym, ap}
-use mathlib.Core.List.{_++_}
 use Prim.Native.Nat.{ℕ, _≤_}
 use native.Mathlib.Omega.{arith}
 use lib.ListN.{List·getD-eq-default}
 use Rattle.counts.proofs.NoneOf.{at-least}
-use Rattle.builtin.specs.Reached.{eventsTo1993, eventsFrom1994, eventAt}
+use Rattle.builtin.specs.Reached.{eventThresholds, eventAt}
 use Rattle.builtin.proofs.Counted.{eighteen}
 use Rattle.builtin.proofs.inner.lookup.event_threshold as call
 
 past-all : (n : ℕ) → 19 ≤ n → 0 ≡ eventAt n
-past-all n l = sym (List·getD-eq-default (eventsTo1993 ++ eventsFrom1994) 0 {n = n} (omega (arith, eighteen)))
+past-all n l = sym (List·getD-eq-default eventThresholds 0 {n = n} (omega (arith, eighteen)))
 
 module _ (c : call.Tie.Start) where
   arm : (n : ℕ) → c .args .event ≡ n → eventAt n ≡ eventAt (c .args .event)
   arm n e = ap eventAt (sym e)
 
 pub event-threshold-spec : {M : Type 1} → call.Statement.statement M
-unfolding eventsTo1993 eventsFrom1994
+unfolding eventThresholds
 event-threshold-spec =
     call.Tie.close
     (call.Tie.spec

@@ -22,12 +22,12 @@ stepped c =
 
 returns : call.Tie.Need-returns
 returns c =
-    let told = c .before .before .before in
+    let told = c .before .before .before .before in
     let found = told .before .before in
     let a = found .before .before .args in
-    c .shifted-by-later .ensures
+    ap countIn (c .by-parts .ensures) ∙ c .before .shifted-by-later .ensures
     ∙ before-epoch (a .behind) true builtin (then (countIn (a .glonass)) (up glonassEpoch))
-    (stepped found) (ap countIn (told .gps .given .1)) (c .before .if1 .taken)
+    (stepped found) (ap countIn (told .gps .given .1)) (c .before .before .if1 .taken)
     ∙ then-then (countIn (a .glonass)) (up glonassEpoch) (utcToShifted (a .behind) builtin)
 
 returns-2 : call.Tie.Need-returns-2
@@ -52,5 +52,5 @@ returns-3 c =
 pub shifted-from-glonass-spec : {M : Type 1} → call.Statement.statement M
 shifted-from-glonass-spec =
     call.Tie.close
-    (call.Tie.spec (search needs) (search needs) (search needs) (search needs) (search needs)
+    (call.Tie.spec (search needs) (search needs) (search needs) (search needs) (search needs) (search needs)
     (search needs) returns returns-2 returns-3)

@@ -9,12 +9,12 @@ use Rattle.builtin.proofs.inner.shifted.shifted_from_utc as call
 
 returns : call.Tie.Need-returns
 returns c =
-    let told = c .before .before .before in
+    let told = c .before .before .before .before in
     let found = told .before .before in
     let a = found .before .args in
-    c .shifted-by-later .ensures
+    ap countIn (c .by-parts .ensures) ∙ c .before .shifted-by-later .ensures
     ∙ before-epoch (a .behind) true builtin (countIn (a .utc))
-    (found .gps-from-utc .ensures) (ap countIn (told .gps .given .1)) (c .before .if1 .taken)
+    (found .gps-from-utc .ensures) (ap countIn (told .gps .given .1)) (c .before .before .if1 .taken)
 
 returns-2 : call.Tie.Need-returns-2
 returns-2 c =
@@ -36,5 +36,5 @@ returns-3 c =
 pub shifted-from-utc-spec : {M : Type 1} → call.Statement.statement M
 shifted-from-utc-spec =
     call.Tie.close
-    (call.Tie.spec (search needs) (search needs) (search needs) (search needs) (search needs)
+    (call.Tie.spec (search needs) (search needs) (search needs) (search needs) (search needs) (search needs)
     returns returns-2 returns-3)
