@@ -1,11 +1,14 @@
 -- For real dates the formula is the calendar, in every year, before year 0 too.
 -- The date of the day that it gives a date is the date, and the day that it gives the date of a day is the day.
-use mathlib.Core.Path.{_≡_, refl, ap, sym, _∙_}
+use mathlib.Core.Path.{_≡_, refl, ap, sym, subst, _∙_}
 use Prim.Native.Nat.{zero, suc}
+use mathlib.Core.Logic.{_↔_}
+use mathlib.Core.Bool.{true}
+use lib.Dec.{T}
 use lib.IntN.{ℤ, pos, negsuc, sucℤ, predℤ}
 use Rattle.calendar.specs.Calendar.{Date, daysIn, next, prev, unixEpoch, dateOf}
 use Rattle.calendar.specs.Formula.{dayOf, era, yoe, doy, doe, formula}
-use Rattle.calendar.proofs.RealDates.{Real, real}
+use Rattle.calendar.proofs.RealDates.{Real, isReal, real, is-real}
 use Rattle.calendar.proofs.DayByDay.{next-real, prev-real, next-prev, prev-next}
 use Rattle.calendar.proofs.DaySteps.{next-day, prev-day, day-zero}
 
@@ -18,6 +21,10 @@ FormulaGivesTheDay = (z : ℤ) → dayOf (dateOf z) ≡ z
 
 abbrev pub CalendarGivesTheDate : Type 0
 CalendarGivesTheDate = (d : Date) → Real d → dateOf (dayOf d) ≡ d
+
+-- the test of a date tells the dates of days
+abbrev pub TestTellsTheDates : Type 0
+TestTellsTheDates = (d : Date) → (isReal d ≡ true) ↔ ((z : ℤ) × (dateOf z ≡ d))
 
 -- their proofs
 epoch-real : Real unixEpoch
@@ -55,3 +62,9 @@ reached (negsuc (suc n)) d r h =
 
 pub date-of-day : CalendarGivesTheDate
 date-of-day d r = reached (dayOf d) d r refl
+
+pub test-tells : TestTellsTheDates
+test-tells d = (
+  λ e. (dayOf d, date-of-day d (real d (subst T (sym e) tt))),
+  λ (z, is). subst (λ (x : Date). isReal x ≡ true) is (is-real (real-date z)),
+)

@@ -10,6 +10,8 @@ use Rattle.calendar.proofs.CivilDate.seconds_until.Reads as seconds-unt
 use Rattle.calendar.proofs.CivilDate.nanos_until.Reads as nanos-until-contract
 use Rattle.calendar.proofs.engine.days_of_date.Reads as days-of-date-contract
 use Rattle.calendar.proofs.engine.date_of_utc_day.Reads as date-of-utc-day-contract
+use Rattle.calendar.proofs.engine.has_month.Reads as has-month-contract
+use Rattle.calendar.proofs.engine.has_day.Reads as has-day-contract
 use Rattle.calendar.proofs.epochs.Epoch.date.Reads as epoch-date-contract
 use Rattle.calendar.proofs.epochs.EpochSpan.length.Reads as epoch-span-length-contract
 
@@ -33,6 +35,12 @@ days-of-date κ a x y e f p q = p ∙ sym q
 
 pub date-of-utc-day : OneAnswer date-of-utc-day-contract.Post
 date-of-utc-day κ a x y e f p q = viewed date-tells x y p q
+
+pub has-month : OneAnswer has-month-contract.Post
+has-month κ a x y e f p q = p ∙ sym q
+
+pub has-day : OneAnswer has-day-contract.Post
+has-day κ a x y e f p q = p ∙ sym q
 
 pub epoch-date : OneAnswer epoch-date-contract.Post
 epoch-date κ a x y e f p q = viewed date-tells x y p q

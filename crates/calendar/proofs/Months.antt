@@ -1,12 +1,15 @@
 -- The months of the calendar and the formula's days before a month, by tests that are computed for each month, in a
 -- leap year or another.
-use Prim.Native.Nat.{ℕ, suc, _+_, _≤_}
-use mathlib.Core.Path.{_≡_, refl}
+use Prim.Native.Nat.{ℕ, suc, _+_, _-_, _≤_, _<_}
+use mathlib.Core.Path.{_≡_, refl, ap, _∙_}
 use mathlib.Core.Logic.{_≢_, ⊎-elim}
-use mathlib.Core.Bool.{Bool, true, false, _||_, cond}
+use mathlib.Core.Bool.{Bool, true, false, _&&_, _||_, cond}
+use mathlib.Core.List.{List, [], _∷_}
 use native.Mathlib.Omega.{arith}
 use borrow.Author.Tests.{ne-eqb}
 use lib.Dec.{T, eqb, leb, eqb→eq, leb→le}
+use lib.ListN.{getD}
+use lib.Seq.{getD-append-add}
 use mir.Facts.{or-yes}
 use Rattle.calendar.specs.Calendar.{daysIn}
 use Rattle.calendar.specs.Formula.{fromMarch, monthStart}
@@ -60,3 +63,19 @@ january l m d to low high e =
     (λ u. absurd (omega (arith, leb→le 307 (start m) u)))
     (or-yes (leb (start m + daysIn l m) 306) (leb 307 (start m)) t))
     (or-yes (eqb m 1) (aside l m) (by-month (λ l m. eqb m 1 || aside l m) tt tt l m to))
+
+-- ---- a leap year has one day more, in February
+abbrev pub leapDay : Bool → ℕ → ℕ
+leapDay l m = cond (eqb m 2 && l) 1 0
+
+pub with-leap-day : (l : Bool) (m : ℕ) → m ≤ 12 → daysIn l m ≡ daysIn false m + leapDay l m
+unfolding daysIn
+with-leap-day l m to = eqb→eq _ _ (by-month (λ l m. eqb (daysIn l m) (daysIn false m + leapDay l m)) tt tt l m to)
+
+-- ---- there is no thirteenth month
+pub no-more : (l : Bool) (m : ℕ) → 12 < m → daysIn l m ≡ 0
+unfolding daysIn
+no-more l m h =
+    let months : List ℕ = 31 ∷ cond l 29 28 ∷ 31 ∷ 30 ∷ 31 ∷ 30 ∷ 31 ∷ 31 ∷ 30 ∷ 31 ∷ 30 ∷ 31 ∷ [] in
+    let after : m - 1 ≡ 12 + (m - 13) = omega arith in
+    ap (λ (i : ℕ). getD months i 0) after ∙ getD-append-add months [] (m - 13) 0

@@ -1,9 +1,11 @@
 -- The dates that the calendar has. Whether it has one is a test that computes.
-use mathlib.Core.Bool.{Bool, _&&_}
+use mathlib.Core.Path.{_≡_, sym, subst}
+use mathlib.Core.Bool.{Bool, true, _&&_}
 use Prim.Native.Nat.{_≤_}
+use borrow.Author.Tests.{le-leb}
 use lib.Dec.{T, leb, leb→le}
 use mir.Facts.{and-yes}
-use Rattle.calendar.specs.Calendar.{Date, monthLength}
+use Rattle.calendar.specs.Calendar.{Date, monthLength, hasMonth, hasDay}
 
 -- a date that the calendar has
 pub record Real (d : Date) : Type 0 where
@@ -13,17 +15,31 @@ pub record Real (d : Date) : Type 0 where
   pub day-to : d .day ≤ monthLength (d .year) (d .month)
 
 abbrev pub isReal : Date → Bool
-isReal d =
-    leb 1 (d .month) && (leb (d .month) 12 && (leb 1 (d .day) && leb (d .day) (monthLength (d .year) (d .month))))
+isReal d = hasMonth d && hasDay d
+
+tested : (d : Date) → T (hasMonth d) → T (hasDay d) → Real d
+tested d m e =
+    let month = and-yes (leb 1 (d .month)) (leb (d .month) 12) m in
+    let day = and-yes (leb 1 (d .day)) (leb (d .day) (monthLength (d .year) (d .month))) e in
+    record {
+      month-from = leb→le 1 (d .month) (month .0);
+      month-to = leb→le (d .month) 12 (month .1);
+      day-from = leb→le 1 (d .day) (day .0);
+      day-to = leb→le (d .day) _ (day .1);
+    }
 
 pub real : (d : Date) → T (isReal d) → Real d
-real d t =
-    let a = and-yes (leb 1 (d .month)) _ t in
-    let b = and-yes (leb (d .month) 12) _ (a .1) in
-    let c = and-yes (leb 1 (d .day)) (leb (d .day) (monthLength (d .year) (d .month))) (b .1) in
-    record {
-      month-from = leb→le 1 (d .month) (a .0);
-      month-to = leb→le (d .month) 12 (b .0);
-      day-from = leb→le 1 (d .day) (c .0);
-      day-to = leb→le (d .day) _ (c .1);
-    }
+real d t = let both = and-yes (hasMonth d) (hasDay d) t in tested d (both .0) (both .1)
+
+pub both-pass : (d : Date) → hasMonth d ≡ true → hasDay d ≡ true → Real d
+both-pass d m e = tested d (subst T (sym m) tt) (subst T (sym e) tt)
+
+module _ {d : Date} (r : Real d) where
+  pub month-passes : hasMonth d ≡ true
+  month-passes = rw (le-leb 1 (d .month) (r .month-from), le-leb (d .month) 12 (r .month-to))
+
+  pub day-passes : hasDay d ≡ true
+  day-passes = rw (le-leb 1 (d .day) (r .day-from), le-leb (d .day) (monthLength (d .year) (d .month)) (r .day-to))
+
+  pub is-real : isReal d ≡ true
+  is-real = rw (month-passes, day-passes)

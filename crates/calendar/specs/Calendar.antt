@@ -3,7 +3,7 @@
 use mathlib.Core.Bool.{Bool, not, _&&_, _||_, cond}
 use mathlib.Core.List.{[], _∷_}
 use Prim.Native.Nat.{ℕ, zero, suc, _+_, _-_, _%_}
-use lib.Dec.{eqb, ltb}
+use lib.Dec.{eqb, ltb, leb}
 use lib.IntN.{ℤ, pos, negsuc, sucℤ, predℤ, natAbs}
 use lib.ListN.{getD}
 
@@ -30,6 +30,13 @@ daysIn l m = getD (31 ∷ cond l 29 28 ∷ 31 ∷ 30 ∷ 31 ∷ 30 ∷ 31 ∷ 31
 
 abbrev pub monthLength : ℤ → ℕ → ℕ
 monthLength y m = daysIn (leap y) m
+
+-- the calendar has the month, and its month has the day
+abbrev pub hasMonth : Date → Bool
+hasMonth d = leb 1 (d .month) && leb (d .month) 12
+
+abbrev pub hasDay : Date → Bool
+hasDay d = leb 1 (d .day) && leb (d .day) (monthLength (d .year) (d .month))
 
 -- the date of the day after
 unfoldable pub next : Date → Date

@@ -1,12 +1,13 @@
-// The two directions between a date and its day, each one function, and the steps that they are made of.
+// The two directions between a date and its day, each one function, the steps that they are made of, and the test of
+// whether the calendar has a date.
 // Years begin here on 1 March, so that a leap day is the last of its year: day 0 is 0000-03-01, and month 0 is March.
 ghost use mathlib.Core.Path.{_≡_};
-ghost use mathlib.Core.Bool.{cond};
+ghost use mathlib.Core.Bool.{false, cond};
 ghost use Prim.Native.Nat.{_+_, _*_, _≤_, _<_, _^_};
 ghost use lib.Dec.{eqb, ltb};
 ghost use lib.IntN.{pos, subℕ};
 ghost use lib.ListN.{getD};
-ghost use Rattle.calendar.specs.Calendar.{on, dateOf};
+ghost use Rattle.calendar.specs.Calendar.{on, leap, daysIn, hasMonth, hasDay, dateOf};
 ghost use Rattle.calendar.specs.Formula.{dayOf, monthStart};
 ghost use Rattle.calendar.specs.March.{daysInYears, FromMarch, InYear, InMonth, epochNumber, liftEras, Lifted};
 ghost use Rattle.calendar.specs.Dates.{utcEpochDay};
@@ -192,5 +193,46 @@ pub fn date_of_utc_day(day: u32) -> CivilDate
         date_of(held.year, month + 3, of_month)
     } else {
         date_of(held.year + 1, month - 9, of_month)
+    }
+}
+
+// Whether a year is a leap year. Eras are alike, so the lift changes nothing.
+fn is_leap(year: i32) -> bool
+    ensures { λ r. ⌜ r ≡ leap year ⌝ }
+{
+    let y = lifted(year);
+    (y % 4 == 0) & ((y % 100 != 0) | (y % 400 == 0))
+}
+
+// The days of a month in a year without a leap day.
+fn common_length(month: u8) -> u8
+    requires { ⌜ month ≤ 12 ⌝ }
+    ensures { λ r. ⌜ r ≡ daysIn false month ⌝ }
+{
+    match month {
+        2 => 28,
+        4 | 6 | 9 | 11 => 30,
+        _ => 31,
+    }
+}
+
+// Whether a year has the month.
+pub fn has_month(date: CivilDate) -> bool
+    ensures { λ r. ⌜ r ≡ hasMonth (dateIn date) ⌝ }
+{
+    (1 <= date.month) & (date.month <= 12)
+}
+
+// Whether the month has the day. The year matters only for 29 February.
+pub fn has_day(date: CivilDate) -> bool
+    ensures { λ r. ⌜ r ≡ hasDay (dateIn date) ⌝ }
+{
+    if date.month > 12 {
+        return false;
+    }
+    if date.day <= common_length(date.month) {
+        1 <= date.day
+    } else {
+        (date.month == 2) & (date.day == 29) & is_leap(date.year)
     }
 }
