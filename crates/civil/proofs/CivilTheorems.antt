@@ -18,23 +18,20 @@ use Rattle.counts.proofs.Fitting.{is-count}
 use Rattle.calendar.specs.Calendar.{dateOf}
 use Rattle.calendar.specs.Formula.{era, yoe, doy, doe, formula, dayOf}
 use Rattle.calendar.specs.Dates.{utcEpochDay}
-use Rattle.calendar.proofs.RealDates.{Real}
 use Rattle.calendar.proofs.CalendarTheorems.{day-of-date, date-of-day, real-date}
 use Rattle.calendar.proofs.DateOrder.{NotAfter, no-earlier-dates}
 use Rattle.civil.specs.Fields.{fields, dateIn, fieldsOf, timeOf, onDay, countAt}
 use Rattle.civil.specs.declared.CivilDateTime.{CivilDateTime}
+use Rattle.civil.proofs.InRange.{InRange}
 
 -- the nanoseconds of a day
 abbrev pub dayNanos : ℕ
 dayNanos = units.daySeconds * units.second
 
--- fields that a clock shows
+-- fields that a clock shows in a day without an inserted second
 pub record RealFields (c : CivilDateTime) : Type 0 where
-  pub date : Real (dateIn c)
-  pub hour : c .hour < 24
-  pub minute : c .minute < 60
+  pub in-range : InRange c
   pub second : c .second < 60
-  pub nanos : c .nanos < units.second
 
 -- ---- the statements
 abbrev pub CountsComeBack : Type 0
@@ -146,11 +143,14 @@ module _ (d h m s : ℕ) (few-hours : h < 24) (few-minutes : m < 60) (few-second
 pub fields-are-real : FieldsOfCountsAreReal
 fields-are-real n =
     record {
-      date = real-date (pos (n / 1000000000 / 86400 + utcEpochDay));
-      hour = omega arith;
-      minute = omega arith;
+      in-range = record {
+        date = real-date (pos (n / 1000000000 / 86400 + utcEpochDay));
+        hour = omega arith;
+        minute = omega arith;
+        second = omega arith;
+        nanos = omega arith;
+      };
       second = omega arith;
-      nanos = omega arith;
     }
 
 pub fields-back : RealFieldsComeBack
@@ -161,10 +161,10 @@ fields-back f n r e =
     a = answered-on (dayOf (dateIn f) -ℤ pos utcEpochDay) (timeOf f) n e
 
     few-hours : f .hour < 24
-    few-hours = omega (arith, r .hour)
+    few-hours = omega (arith, r .in-range .hour)
 
     few-minutes : f .minute < 60
-    few-minutes = omega (arith, r .minute)
+    few-minutes = omega (arith, r .in-range .minute)
 
     few-seconds : f .second < 60
     few-seconds = omega (arith, r .second)
@@ -179,13 +179,13 @@ fields-back f n r e =
         sums d t k n e = omega arith
 
     whole-seconds : n / 1000000000 ≡ a .day * 86400 + time
-    whole-seconds = quotient n (a .day * 86400 + time) (f .nanos) total (r .nanos)
+    whole-seconds = quotient n (a .day * 86400 + time) (f .nanos) total (r .in-range .nanos)
       where
         quotient : (n s k : ℕ) → n ≡ s * 1000000000 + k → k < 1000000000 → n / 1000000000 ≡ s
         quotient n s k e h = omega arith
 
     nanos : n % 1000000000 ≡ f .nanos
-    nanos = rest n (a .day * 86400 + time) (f .nanos) total (r .nanos)
+    nanos = rest n (a .day * 86400 + time) (f .nanos) total (r .in-range .nanos)
       where
         rest : (n s k : ℕ) → n ≡ s * 1000000000 + k → k < 1000000000 → n % 1000000000 ≡ k
         rest n s k e h = omega arith
@@ -212,7 +212,7 @@ fields-back f n r e =
         (f .minute) (f .second) few-hours few-minutes few-seconds)
         ∙ ap dateOf (sym (sym (-ℤ-+ℤ-cancel (dayOf (dateIn f)) (pos utcEpochDay))
         ∙ ap (λ (z : ℤ). z +ℤ pos utcEpochDay) (a .is)))
-        ∙ date-of-day (dateIn f) (r .date)
+        ∙ date-of-day (dateIn f) (r .in-range .date)
 
 pub date-of-count : DateOfACountIsItsDays
 date-of-count n = ap (λ (d : ℕ). dateOf (pos (d + utcEpochDay))) (days n)

@@ -1,14 +1,17 @@
 // Civil dates and times of day in UTC, and their counts: civil.rs. No field is checked on the way to a count; a real
-// date follows the calendar, any other the formula, and a time of day only its sum.
+// date follows the calendar, any other the formula, and a time of day only its sum. Which fields exist is told apart from
+// it, by `check`.
 pub mod inner;
 
 ghost use mathlib.Core.Path.{_≡_};
 ghost use lib.IntN.{pos, _-ℤ_};
 ghost use lib.Dec.{eqb};
+ghost use lib.ListN.{drop};
 ghost use Rattle.counts.specs.Answers.{countIn};
 ghost use Rattle.scales.specs.Answers.{utcIn};
 ghost use Rattle.calendar.specs.Dates.{utcEpochDay};
 ghost use Rattle.civil.specs.Fields.{fieldsOf, timeOf, onDay, countAt};
+ghost use Rattle.civil.specs.Real.{fieldTests, firstFailed, outOfRange, checkIn};
 use calendar::CivilDate;
 use calendar::engine;
 use counts::CountAnswer;
@@ -41,6 +44,12 @@ pub struct CivilDateTime {
     pub nanos: u32,
 }
 
+// Whether fields exist, or why the first that is out of range does not.
+pub enum FieldCheck {
+    InRange,
+    Refused(Refusal),
+}
+
 // The count of a time on a Unix day.
 fn count_on_day(unix_day: i64, time: u64) -> CountAnswer
     ensures { λ r. ⌜ countIn r ≡ onDay («unix_day» -ℤ pos utcEpochDay) time ⌝ }
@@ -61,6 +70,44 @@ impl CivilDateTime {
         ensures { λ r. ⌜ r ≡ fieldsOf count ⌝ }
     {
         fields_at(count / NANOS_PER_SECOND, (count % NANOS_PER_SECOND) as u32)
+    }
+
+    // Tests hour, minute, second and nanoseconds.
+    fn check_time(self) -> FieldCheck
+        ensures { λ r. ⌜ checkIn r ≡ firstFailed (drop 2 (fieldTests self)) ⌝ }
+    {
+        if self.hour >= 24 {
+            return FieldCheck::Refused(Refusal::NoSuchHour);
+        }
+        if self.minute >= 60 {
+            return FieldCheck::Refused(Refusal::NoSuchMinute);
+        }
+        if self.second > 60 {
+            return FieldCheck::Refused(Refusal::NoSuchSecond);
+        }
+        if self.nanos as u64 >= NANOS_PER_SECOND {
+            return FieldCheck::Refused(Refusal::InvalidNanos);
+        }
+        FieldCheck::InRange
+    }
+
+    // Tests the fields from the month on, and refuses the first that does not exist. Second 60 passes: whether one was
+    // inserted there is for a table to say.
+    pub fn check(self) -> FieldCheck
+        ensures { λ r. ⌜ checkIn r ≡ outOfRange self ⌝ }
+    {
+        let date = CivilDate {
+            year: self.year,
+            month: self.month,
+            day: self.day,
+        };
+        if !engine::has_month(date) {
+            return FieldCheck::Refused(Refusal::NoSuchMonth);
+        }
+        if !engine::has_day(date) {
+            return FieldCheck::Refused(Refusal::NoSuchDay);
+        }
+        self.check_time()
     }
 
     // The nanoseconds of the time of day.
