@@ -4,6 +4,7 @@ use mathlib.Core.Path.{_≡_, refl, sym, ap, _∙_}
 use mathlib.Core.Logic.{_↔_}
 use mathlib.Core.Bool.{Bool, true, false, cond, _&&_, and-false}
 use mathlib.Core.List.{List, List·Memᴰ}
+use mathlib.Core.Option as option
 use Prim.Native.Nat.{ℕ, _+_, _*_, _-_, _/_, _%_, _^_, _≤_, _<_}
 use native.Mathlib.Omega.{arith}
 use native.Mathlib.Decide.{decLt}
@@ -22,6 +23,7 @@ use Rattle.calendar.specs.Calendar.{Date, dateOf}
 use Rattle.calendar.specs.Dates.{utcEpochDay}
 use Rattle.calendar.specs.Formula.{dayOf}
 use Rattle.civil.specs.Fields.{fields, dateIn, fieldsOn, fieldsOf, timeOf, countAt}
+use Rattle.civil.specs.Real.{outOfRange, unlessRefused}
 use Rattle.civil.specs.declared.CivilDateTime.{CivilDateTime}
 use Rattle.tables.specs.Entries.{Entry, threshold, regular, day, onDays, lookup}
 use Rattle.tables.specs.declared.Lookup.{Lookup}
@@ -32,7 +34,7 @@ use Rattle.conversions.proofs.ByLookup.{by-reading}
 use Rattle.conversions.proofs.LeapSeconds.{LeapSeconds, leaps, counted}
 use Rattle.conversions.proofs.OnNaturals.{tai, Reads, to-utc, from-gps, comes-back, apart}
 use Rattle.readings.specs.Readings.{dayOfGps, fieldsInDay, readingOf, gpsToCivil, sameFields, utcToLater, readSo}
-use Rattle.readings.specs.Readings.{civilToGps}
+use Rattle.readings.specs.Readings.{countOfFields, civilToGps}
 use Rattle.readings.specs.ByLookup.{inFirstSecond, sixty, readingFrom, laterFrom, readSoFrom, backFrom}
 use Rattle.readings.proofs.LaterEntries.{OnADay, near, both-tests, on-days}
 use Rattle.readings.proofs.Days.{day-of}
@@ -132,7 +134,7 @@ module _ (es : List Entry) (k : ℕ → ℕ) (f : LeapSeconds es k) where
 
     -- where one more leap second is passed, the later count has the same UTC count: no threshold is so late that it is
     -- out of range
-    there-too : k (tai g) < k (tai g + second) → Reads es k f later u
+    pub there-too : k (tai g) < k (tai g + second) → Reads es k f later u
     there-too more =
         let x = f .more-by-an-entry (tai g) (tai g + second) more in
         let (j, is) = on (x .entry) (x .among) in
@@ -326,17 +328,21 @@ module _ (es : List Entry) (d : onDays es ≡ true) where
 
     -- fields back by the first GPS count that has their UTC count, and a lookup at its TAI reading
     pub reads-back : let first = then (countAt c) (utcToGps es) in
-        backFrom c (countAt c) first (lookup es (valueIn 0 (then first (up taiMinusGps)))) ≡ civilToGps es c
-    reads-back = rw d (of-count (countAt c) (is-a-count c) (eqb (c .second) 60))
+        backFrom c (countAt c) first (lookup es (valueIn 0 (then first (up taiMinusGps)))) ≡ countOfFields es c
+    reads-back = of-count (countAt c) (is-a-count c) (eqb (c .second) 60)
 
     -- an answer has a TAI reading
     pub has-reading : (gps : ℕ) → civilToGps es c ≡ answered gps → gps + taiMinusGps < 2 ^ 64
-    has-reading gps e = fits-count (countAt c) (is-a-count c) (eqb (c .second) 60) gps (rw d at e)
+    has-reading gps e = if-real (outOfRange c) (rw d at e)
+      where
+        if-real : (o : option.Option ℕ) → unlessRefused o (countOfFields es c) ≡ answered gps → gps + taiMinusGps < 2 ^ 64
+        if-real option.none h = fits-count (countAt c) (is-a-count c) (eqb (c .second) 60) gps h
+        if-real (option.some k) h = absurd (no-refusal _ h refl)
 
     -- by the parts that a store calls
     pub back-by : {utc first : Outcome ℕ} {t : ℕ} {found : Lookup} → utc ≡ countAt c → first ≡ then utc (utcToGps es)
         → t ≡ valueIn 0 (then first (up taiMinusGps)) → found ≡ lookup es t
-        → backFrom c utc first found ≡ civilToGps es c
+        → backFrom c utc first found ≡ countOfFields es c
     back-by a b r l =
         let first-is = b ∙ ap (λ (o : Outcome ℕ). then o (utcToGps es)) a in
         let here = l ∙ ap (lookup es) (r ∙ ap (λ (o : Outcome ℕ). valueIn 0 (then o (up taiMinusGps))) first-is) in

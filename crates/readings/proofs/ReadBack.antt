@@ -1,34 +1,44 @@
 -- Over a list on days: a GPS count in the last second before a threshold is read as 23:59:60, any other as the fields
--- of its UTC count, and each goes back from its reading; and what fields go back to, with a second of 60 and without.
+-- of its UTC count; fields go to a count exactly if it is read as they are, with a second of 60 and without; and by which
+-- number they are refused.
 use mathlib.Core.Path.{_≡_, refl, sym, ap, _∙_}
 use mathlib.Core.Logic.{_↔_, _≢_}
 use mathlib.Core.Bool.{Bool, true, false, cond}
 use mathlib.Core.List.{List}
+use mathlib.Core.Option as option
 use Prim.Native.Nat.{ℕ, _+_, _*_, _-_, _/_, _%_, _^_, _≤_, _<_}
 use native.Mathlib.Omega.{arith}
-use native.Mathlib.Decide.{decLe, decLt}
+use native.Mathlib.Decide.{decLe, decLt, ℕ-discrete}
 use borrow.Author.Tests.{lt-ltb, le-ltb, eq-eqb, ne-eqb}
-use lib.IntN.{ℤ, pos}
+use lib.Dec.{ltb}
+use lib.IntN.{ℤ, pos, natAbs, _-ℤ_}
+use lib.Signed.{nonNeg}
 use Rattle.refusals.specs.Outcome.{Outcome, answered, refused, then, changed}
 use Rattle.refusals.proofs.Given.{one-answer, no-refusal}
-use Rattle.counts.specs.Exact.{countOf}
-use Rattle.counts.proofs.Difference.{not-below, of-naturals}
-use Rattle.counts.proofs.Fitting.{is-count}
+use Rattle.refusals.proofs.Steps.{goes-on}
+use Rattle.counts.specs.Exact.{countOf, up, down}
+use Rattle.counts.proofs.Difference.{not-below, below, of-naturals}
+use Rattle.counts.proofs.Fitting.{is-count, no-count}
 use Rattle.counts.specs.Units.{second}
 use Rattle.scales.specs.Scales.{taiMinusGps}
 use Rattle.calendar.specs.Calendar.{dateOf}
-use Rattle.civil.specs.Fields.{fields, fieldsOf, timeOf, onDay, countAt}
+use Rattle.calendar.specs.Dates.{utcEpochDay}
+use Rattle.calendar.specs.Formula.{dayOf}
+use Rattle.calendar.proofs.CalendarTheorems.{real-date}
+use Rattle.civil.specs.Fields.{fields, dateIn, fieldsOf, timeOf, onDay, countAt}
+use Rattle.civil.specs.Real.{outOfRange}
 use Rattle.civil.specs.declared.CivilDateTime.{CivilDateTime}
-use Rattle.civil.proofs.CivilTheorems.{count-back, by-the-calendar}
+use Rattle.civil.proofs.InRange.{InRange, in-range, none-out}
+use Rattle.civil.proofs.CivilTheorems.{RealFields, count-back, fields-back, fields-are-real, by-the-calendar}
 use Rattle.tables.specs.Entries.{Entry, regular, day, onDays}
 use Rattle.conversions.specs.Conversions.{E, gpsToUtc, utcToGps}
 use Rattle.conversions.proofs.LeapSeconds.{LeapSeconds, leaps, counted}
-use Rattle.conversions.proofs.OnNaturals.{tai, Reads, to-utc, from-gps, not-before-E, from-E, apart, a, b}
+use Rattle.conversions.proofs.OnNaturals.{tai, Reads, to-utc, from-gps, before-E, not-before-E, from-E, comes-back, apart, a, b}
 use Rattle.readings.specs.Readings.{dayOfGps, readingOf, gpsToCivil, sameFields, utcToLater, readSo}
 use Rattle.readings.specs.Readings.{civilToGps}
-use Rattle.readings.proofs.LaterEntries.{both-tests}
+use Rattle.readings.proofs.LaterEntries.{both-tests, on-days}
 use Rattle.readings.proofs.Days.{DayOf, day-of}
-use Rattle.readings.proofs.ByLookup.{in-the-day, is-a-count, later-is, first-read}
+use Rattle.readings.proofs.ByLookup.{in-the-day, is-a-count, there-too, later-is, first-read}
 use Rattle.readings.proofs.Order.{same-fields}
 
 -- 23:59:60 on the day before that of a UTC count, with its nanoseconds
@@ -49,6 +59,28 @@ count-of-sixty u from fits midnight =
   where
     sums : (u d n : ℕ) → day ≤ u → 1 ≤ d → u ≡ d * 86400000000000 + n → (d - 1) * 86400000000000 + (86400 * 1000000000 + n) ≡ u
     sums u d n from some e = omega arith
+
+sixty-in-range : (u : ℕ) → InRange (beforeDayOf u)
+sixty-in-range u = record {
+  date = real-date (pos (u / second / 86400 + 729));
+  hour = omega arith;
+  minute = omega arith;
+  second = omega arith;
+  nanos = omega arith;
+}
+
+-- the lenient formula refuses by 1 alone
+only-1 : (c : CivilDateTime) (n : ℕ) → countAt c ≡ refused n → n ≡ 1
+only-1 c n =
+    by-sign (nonNeg (dayOf (dateIn c) -ℤ pos utcEpochDay)) (natAbs (dayOf (dateIn c) -ℤ pos utcEpochDay) * day + timeOf c)
+  where
+    by-size : (b : Bool) (m : ℕ) → cond b (answered m) (refused 1) ≡ refused n → n ≡ 1
+    by-size true m e = absurd (no-refusal (answered m) refl e)
+    by-size false m e = cc
+
+    by-sign : (b : Bool) (m : ℕ) → cond b (countOf (pos m)) (refused 1) ≡ refused n → n ≡ 1
+    by-sign true m e = by-size (ltb m (2 ^ 64)) m e
+    by-sign false m e = cc
 
 module _ (es : List Entry) (d : onDays es ≡ true) where
   abbrev is-regular : regular es ≡ true
@@ -166,15 +198,86 @@ module _ (es : List Entry) (d : onDays es ≡ true) where
           absurd (omega (arith, none))
       is l (no h) = omega (arith, h, l .last g r)
 
-  module _ (c : CivilDateTime) where
-    sixty : c .second ≡ 60 → civilToGps es c ≡ readSo es c (then (countAt c) (utcToGps es))
-    sixty s = rw (d, eq-eqb (c .second) 60 s)
+  -- so the last one is a second before the first that has the UTC count a second on: were there two of those, the first
+  -- of them would be in the last second before a threshold
+  down-a-second : (n : ℕ) → second ≤ n → n < 2 ^ 64 → down second n ≡ answered (n - second)
+  down-a-second n from fits =
+      ap countOf (of-naturals n second ∙ not-below n second from) ∙ is-count (n - second) (omega arith)
 
-    other : c .second ≢ 60 → civilToGps es c ≡ then (countAt c) (utcToLater es)
-    other s = rw (d, ne-eqb (c .second) 60 s)
+  pub a-second-on : (u : ℕ) → u + second < 2 ^ 64 → then (utcToGps es (u + second)) (down second) ≡ utcToLater es u
+  a-second-on u fits = by-time (decLt (u + second) E) (decLt u E)
+    where
+      by-time : Dec (u + second < E) → Dec (u < E) → then (utcToGps es (u + second)) (down second) ≡ utcToLater es u
+      by-time (yes h) early = rw (before-E es k f (u + second) h, before-E es k f u (omega arith))
+      by-time (no h) (yes early) =
+          let g = u + second - E + k (b es k f (u + second)) * second in
+          let from : E ≤ u + second = omega (arith, h) in
+          let at-first : k (a es k f (u + second)) ≡ 0 = f .none-on-the-first-day (a es k f (u + second)) (omega arith) in
+          let there : k (b es k f (u + second)) ≡ 0 = f .none-on-the-first-day (b es k f (u + second)) (omega arith) in
+          goes-on (down second) (from-E es k f (u + second) from fits)
+          ∙ ap countOf (of-naturals g second ∙ below g second (omega arith))
+          ∙ sym (rw (before-E es k f u early))
+      by-time (no h) (no late) =
+          let g = u + second - E + k (b es k f (u + second)) * second in
+          let e = from-E es k f (u + second) (omega (arith, h)) fits in
+          let r = comes-back es k f (u + second) g fits e in
+          let from : second ≤ g = omega (arith, late) in
+          let on : tai (g - second) + second ≡ tai g = omega arith in
+          goes-on (down second) e ∙ down-a-second g from (omega (arith, r .tai-fits))
+          ∙ sym (by-more g e r from on (decLt (k (tai (g - second))) (k (tai g))))
+        where
+          by-more : (g : ℕ) → utcToGps es (u + second) ≡ answered g → Reads es k f g (u + second) → second ≤ g
+              → tai (g - second) + second ≡ tai g → Dec (k (tai (g - second)) < k (tai g))
+              → utcToLater es u ≡ answered (g - second)
+          by-more g e r from on (yes more) =
+              let one = f .one-in-a-day (tai (g - second)) (tai g) (omega arith) in
+              let too : Reads es k f (g - second) (u + second) = record {
+                tai-fits = omega (arith, r .tai-fits);
+                utc-fits = fits;
+                exact = omega (arith, r .exact);
+              } in
+              let same = one-answer (utcToGps es (u + second)) e (first-of-two (g - second) (u + second) too (rw on more)) in
+              absurd (omega (arith, from))
+          by-more g e r from on (no none) =
+              let rise = f .rises (tai (g - second)) (tai g) (omega arith) in
+              let same : k (tai (g - second)) ≡ k (tai g) = omega (arith, none) in
+              let before : Reads es k f (g - second) u = record {
+                tai-fits = omega (arith, r .tai-fits);
+                utc-fits = omega arith;
+                exact = omega (arith, r .exact);
+              } in
+              last-of-two (g - second) u before (rw on (omega arith))
+
+  pub by-next : (o : Outcome ℕ) (x : ℕ) → then o (up second) ≡ answered x
+      → then (then (then o (up second)) (utcToGps es)) (down second) ≡ then o (utcToLater es)
+  by-next (refused n) x e = absurd (no-refusal _ e refl)
+  by-next (answered u) x e = by-size (decLt (u + second) (2 ^ 64))
+    where
+      by-size : Dec (u + second < 2 ^ 64) → then (then (up second u) (utcToGps es)) (down second) ≡ utcToLater es u
+      by-size (yes h) =
+          ap (λ (o : Outcome ℕ). then (then o (utcToGps es)) (down second)) (is-count (u + second) h) ∙ a-second-on u h
+      by-size (no h) = absurd (no-refusal (up second u) e (no-count (u + second) (omega (arith, h))))
+
+  module _ (c : CivilDateTime) where
+    -- a field out of range is refused by its number
+    pub out-of-range : (n : ℕ) → outOfRange c ≡ option.some n → civilToGps es c ≡ refused n
+    out-of-range n e = rw (d, e)
+
+    pub answered-in-range : (g : ℕ) → civilToGps es c ≡ answered g → outOfRange c ≡ option.none
+    answered-in-range g e = go (outOfRange c) refl
+      where
+        go : (o : option.Option ℕ) → outOfRange c ≡ o → o ≡ option.none
+        go option.none q = refl
+        go (option.some n) q = absurd (no-refusal (civilToGps es c) e (out-of-range n q))
+
+    sixty : outOfRange c ≡ option.none → c .second ≡ 60 → civilToGps es c ≡ readSo es c (then (countAt c) (utcToGps es))
+    sixty r s = rw (d, r, eq-eqb (c .second) 60 s)
+
+    other : outOfRange c ≡ option.none → c .second ≢ 60 → civilToGps es c ≡ then (countAt c) (utcToLater es)
+    other r s = rw (d, r, ne-eqb (c .second) 60 s)
 
     -- a reading goes back to its count
-    pub reads-back : (g : ℕ) → gpsToCivil es g ≡ answered c → civilToGps es c ≡ answered g
+    reads-back : (g : ℕ) → gpsToCivil es g ≡ answered c → civilToGps es c ≡ answered g
     reads-back g e = let (u, q, is) = was-read g c e in go u q is (decLt (k (tai g)) (k (tai g + second)))
       where
         go : (u : ℕ) → gpsToUtc es g ≡ answered u → readingOf es g ≡ c → Dec (k (tai g) < k (tai g + second))
@@ -185,19 +288,21 @@ module _ (es : List Entry) (d : onDays es ≡ true) where
             let so : c ≡ beforeDayOf u = sym is ∙ in-last-second g u q h in
             let counted : countAt c ≡ answered u
             = ap countAt so ∙ count-of-sixty u (omega arith) (r .utc-fits) (midnight g u q h) in
-            sixty (ap (λ (x : CivilDateTime). x .second) so)
+            sixty (ap outOfRange so ∙ none-out (beforeDayOf u) (sixty-in-range u)) (ap (λ (x : CivilDateTime). x .second) so)
             ∙ rw (counted, first-of-two g u r h, same-fields (readingOf es g) c .1 is)
         go u q is (no h) =
             let r = from-gps es k f g u q in
-            let none : k (tai g + second) ≤ k (tai g) = omega (arith, h) in
-            let so : c ≡ fieldsOf u = sym is ∙ elsewhere g u q none in
+            let not-more : k (tai g + second) ≤ k (tai g) = omega (arith, h) in
+            let so : c ≡ fieldsOf u = sym is ∙ elsewhere g u q not-more in
             let seconds : c .second ≡ u / second % 60 = ap (λ (x : CivilDateTime). x .second) so in
             let counted : countAt c ≡ answered u = ap countAt so ∙ count-back u (r .utc-fits) in
-            other (λ s. omega (arith, s)) ∙ rw counted (last-of-two g u r none)
+            other (ap outOfRange so ∙ none-out (fieldsOf u) (fields-are-real u .in-range)) (λ s. omega (arith, s))
+            ∙ rw counted (last-of-two g u r not-more)
 
     -- with a second of 60: the count that is read so, or 14
-    pub sixty-read : c .second ≡ 60 → (g : ℕ) → civilToGps es c ≡ answered g → (g < 2 ^ 64) × (gpsToCivil es g ≡ answered c)
-    sixty-read s g e = by-count (countAt c) refl (sym (sixty s) ∙ e)
+    sixty-read : outOfRange c ≡ option.none → c .second ≡ 60 → (g : ℕ) → civilToGps es c ≡ answered g
+        → (g < 2 ^ 64) × (gpsToCivil es g ≡ answered c)
+    sixty-read r s g e = by-count (countAt c) refl (sym (sixty r s) ∙ e)
       where
         by-count : (o : Outcome ℕ) → countAt c ≡ o → readSo es c (then o (utcToGps es)) ≡ answered g
             → (g < 2 ^ 64) × (gpsToCivil es g ≡ answered c)
@@ -220,8 +325,9 @@ module _ (es : List Entry) (d : onDays es ≡ true) where
                           ∙ ap answered (same-fields (readingOf es g₀) c .0 t),
                     )
 
-    pub sixty-or-14 : c .second ≡ 60 → ((g : ℕ) → civilToGps es c ≡ answered g → ⊥) → civilToGps es c ≡ refused 14
-    sixty-or-14 s none = sixty s ∙ go (then (countAt c) (utcToGps es)) (λ g e. none g (sixty s ∙ e))
+    pub sixty-or-14 : outOfRange c ≡ option.none → c .second ≡ 60 → ((g : ℕ) → civilToGps es c ≡ answered g → ⊥)
+        → civilToGps es c ≡ refused 14
+    sixty-or-14 r s none = sixty r s ∙ go (then (countAt c) (utcToGps es)) (λ g e. none g (sixty r s ∙ e))
       where
         go : (o : Outcome ℕ) → ((g : ℕ) → readSo es c o ≡ answered g → ⊥) → readSo es c o ≡ refused 14
         go (refused n) none = refl
@@ -241,7 +347,7 @@ module _ (es : List Entry) (d : onDays es ≡ true) where
       pub last : (g′ : ℕ) → gpsToUtc es g′ ≡ answered utc → g′ ≤ g
 
     pub other-last : c .second ≢ 60 → (g : ℕ) → civilToGps es c ≡ answered g → LastOfCount g
-    other-last s g e = by-count (countAt c) refl (sym (other s) ∙ e)
+    other-last s g e = by-count (countAt c) refl (sym (other (answered-in-range g e) s) ∙ e)
       where
         by-count : (o : Outcome ℕ) → countAt c ≡ o → then o (utcToLater es) ≡ answered g → LastOfCount g
         by-count (refused n) q h = absurd (no-refusal _ h refl)
@@ -261,11 +367,45 @@ module _ (es : List Entry) (d : onDays es ≡ true) where
                   last = λ g′ x. omega (arith, l .last g′ (from-gps es k f g′ u x));
                 }
 
-    -- one that has it is enough
-    pub other-answered : c .second ≢ 60 → (g u : ℕ) → countAt c ≡ answered u → gpsToUtc es g ≡ answered u
-        → (g′ : ℕ) × (civilToGps es c ≡ answered g′)
-    other-answered s g u q e =
-        let r = from-gps es k f g u e in
-        let (g₀, p) = has-first g u r in
-        let l = the-last u g₀ (r .utc-fits) p in
-        (l .count, other s ∙ rw q (l .is))
+    -- which is read as they are: they exist, and the count is not in the last second before a threshold, or the one a
+    -- second later would have their UTC count too
+    other-read : c .second ≢ 60 → (g : ℕ) → civilToGps es c ≡ answered g → (g < 2 ^ 64) × (gpsToCivil es g ≡ answered c)
+    other-read s g e = (l .fits, is-read g (l .utc) (l .has) ∙ ap answered (by-more (decLt (k (tai g)) (k (tai g + second)))))
+      where
+        l : LastOfCount g
+        l = other-last s g e
+
+        exist : RealFields c
+        exist =
+            let r = in-range c (answered-in-range g e) in
+            record { in-range = r; second = omega (arith, r .second, s) }
+
+        by-more : Dec (k (tai g) < k (tai g + second)) → readingOf es g ≡ c
+        by-more (yes h) =
+            let r = there-too es k f (on-days es d) g (l .utc) (from-gps es k f g (l .utc) (l .has)) h in
+            absurd (omega (arith, l .last (g + second) (to-utc es k f (g + second) (l .utc) r)))
+        by-more (no h) = elsewhere g (l .utc) (l .has) (omega (arith, h)) ∙ fields-back c (l .utc) exist (l .is)
+
+    -- and 1 where no count has it
+    pub other-or-1 : outOfRange c ≡ option.none → c .second ≢ 60 → ((g : ℕ) → civilToGps es c ≡ answered g → ⊥)
+        → civilToGps es c ≡ refused 1
+    other-or-1 r s none = other r s ∙ by-count (countAt c) refl
+      where
+        by-count : (o : Outcome ℕ) → countAt c ≡ o → then o (utcToLater es) ≡ refused 1
+        by-count (refused n) q = ap refused (only-1 c n q)
+        by-count (answered u) q = by-time (decLt u E)
+          where
+            by-time : Dec (u < E) → utcToLater es u ≡ refused 1
+            by-time (yes h) = rw (before-E es k f u h)
+            by-time (no h) =
+                let fits = is-a-count c u q in
+                let l = the-last u _ fits (from-E es k f u (omega (arith, h)) fits) in
+                absurd (none (l .count) (other r s ∙ rw q (l .is)))
+
+    -- fields go to a count exactly if it is read as they are
+    pub read-exactly : (g : ℕ) → (civilToGps es c ≡ answered g) ↔ ((g < 2 ^ 64) × (gpsToCivil es g ≡ answered c))
+    read-exactly g = (λ e. by-second (ℕ-discrete (c .second) 60) e, λ (fits, e). reads-back g e)
+      where
+        by-second : Dec (c .second ≡ 60) → civilToGps es c ≡ answered g → (g < 2 ^ 64) × (gpsToCivil es g ≡ answered c)
+        by-second (yes s) e = sixty-read (answered-in-range g e) s g e
+        by-second (no s) e = other-read s g e

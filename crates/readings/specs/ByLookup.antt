@@ -43,7 +43,7 @@ abbrev pub readSoFrom : Lookup → (tai utc : ℕ) → CivilDateTime → Outcome
 readSoFrom found tai utc c (answered gps) = cond (sameFields (readingFrom found tai utc) c) (answered gps) (refused 14)
 readSoFrom found tai utc c (refused k) = refused 14
 
--- fields to GPS, by their UTC count, the first GPS count that has it, and what a lookup at its TAI reading tells
+-- fields that exist to GPS, by their UTC count, the first GPS count that has it, and what a lookup at its TAI reading tells
 abbrev pub backFrom : CivilDateTime → (utc first : Outcome ℕ) → Lookup → Outcome ℕ
 backFrom c utc first found =
     let tai = valueIn 0 (then first (up taiMinusGps)) in

@@ -11,6 +11,7 @@ use Rattle.counts.specs.Units.{second}
 use Rattle.scales.specs.Scales.{taiMinusGps}
 use Rattle.calendar.specs.Calendar.{dateOf}
 use Rattle.civil.specs.Fields.{fields, fieldsOn, countAt}
+use Rattle.civil.specs.Real.{ofReal}
 use Rattle.civil.specs.declared.CivilDateTime.{CivilDateTime}
 use Rattle.tables.specs.Entries.{Entry, threshold, equal, day, onDays}
 use Rattle.conversions.specs.Conversions.{gpsToUtc, utcToGps}
@@ -76,12 +77,12 @@ abbrev pub readSo : List Entry → CivilDateTime → Outcome ℕ → Outcome ℕ
 readSo es c (answered gps) = cond (sameFields (readingOf es gps) c) (answered gps) (refused 14)
 readSo es c (refused k) = refused 14
 
--- the count of fields: with a second of 60 the count that is read so, and 14 where there is none; and else by the
--- lenient formula
+-- the count of fields that exist: with a second of 60 the count that is read so, and 14 where there is none; and else by
+-- their UTC count
 abbrev pub countOfFields : List Entry → CivilDateTime → Outcome ℕ
 countOfFields es c =
     cond (eqb (c .second) 60) (readSo es c (then (countAt c) (utcToGps es))) (then (countAt c) (utcToLater es))
 
--- civil to GPS: 13 first
+-- civil to GPS: 13, then 15 to 19 and 11 for the first field that is out of range
 abbrev pub civilToGps : List Entry → CivilDateTime → Outcome ℕ
-civilToGps es c = ofDays es (countOfFields es c)
+civilToGps es c = ofDays es (ofReal c (countOfFields es c))

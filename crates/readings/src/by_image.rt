@@ -13,6 +13,7 @@ use crate::DatedReading;
 use crate::ReadingAnswer;
 use crate::inner::back;
 use crate::inner::date_reading;
+use crate::inner::if_real;
 use crate::inner::read;
 use civil::CivilDateTime;
 use conversions::inner::dated::DatedCount;
@@ -51,8 +52,9 @@ pub fn gps_to_civil(gps: Gps, image: &[u8]) -> DatedReading
     }
 }
 
-// Refuses 8, 13, then 14 where the second is 60 and no GPS count is read so, then 1. Any other fields go by the lenient
-// formula, and to the later of two GPS counts. The first of them is found as by `images::table::gps_from_utc`.
+// Refuses 8, 13, then 15 to 19 and 11 for the first field that is out of range, then 14 where the second is 60 and no GPS
+// count is read so, then 1. Other fields go to the later of two GPS counts. The first of them is found as by
+// `images::table::gps_from_utc`.
 pub fn civil_to_gps(fields: CivilDateTime, image: &[u8]) -> DatedCount
     ensures { λ r. ⌜ datedIn r ≡
         datedByImage (now (image .entry)) (λ es. valueIn 0 (civilToGps es fields) + taiMinusGps)
@@ -68,7 +70,7 @@ pub fn civil_to_gps(fields: CivilDateTime, image: &[u8]) -> DatedCount
             let b = last_reading_of(utc, told, a);
             let first = gps_from_lookup(look_up(image, b), utc);
             let found = look_up(image, reading_of(tai_of(first)));
-            let gps = back(fields, utc, first, found);
+            let gps = if_real(fields, back(fields, utc, first, found));
             let stale = is_stale(expiry(image), reading_of(tai_of(gps)));
             date(gps, stale)
         }

@@ -4,6 +4,7 @@ ghost use Prim.Native.Nat.{_-_};
 ghost use Rattle.refusals.specs.Outcome.{valueIn, then, changed};
 ghost use Rattle.counts.specs.Answers.{countIn};
 ghost use Rattle.counts.specs.Units.{second};
+ghost use Rattle.civil.specs.Real.{ofReal};
 ghost use Rattle.tables.specs.Expiry.{dated};
 ghost use Rattle.conversions.specs.ByLookup.{utcFromLookup};
 ghost use Rattle.readings.specs.Readings.{sameFields};
@@ -12,6 +13,7 @@ ghost use Rattle.readings.specs.Answers.{readingIn, datedReadingIn};
 use crate::DatedReading;
 use crate::ReadingAnswer;
 use civil::CivilDateTime;
+use civil::FieldCheck;
 use conversions::inner::reading_of;
 use conversions::inner::tai_of;
 use conversions::inner::utc_from_lookup;
@@ -24,7 +26,7 @@ use tables::LookupAnswer;
 use tables::Threshold;
 
 // The second of an inserted second.
-const INSERTED: u8 = 60;
+pub const INSERTED: u8 = 60;
 
 // Whether the next threshold is at most a second after a TAI reading.
 fn near_before(next: Threshold, tai: u64) -> bool
@@ -145,7 +147,7 @@ fn later_from(found: Lookup, tai: u64, gps: CountAnswer) -> CountAnswer
     }
 }
 
-// Fields to GPS, by their UTC count, the first GPS count that has it, and what a lookup at its TAI reading tells.
+// Fields that exist to GPS, by their UTC count, the first GPS count that has it, and what a lookup at its TAI reading tells.
 pub fn back(
     fields: CivilDateTime,
     utc: CountAnswer,
@@ -159,6 +161,16 @@ pub fn back(
         read_so(found, tai, reading_of(utc), fields, first)
     } else {
         later_from(found, tai, first)
+    }
+}
+
+// An answer to fields that exist, and else the refusal of the first that is out of range.
+pub fn if_real(fields: CivilDateTime, answer: CountAnswer) -> CountAnswer
+    ensures { λ r. ⌜ countIn r ≡ ofReal fields (countIn answer) ⌝ }
+{
+    match fields.check() {
+        FieldCheck::InRange => answer,
+        FieldCheck::Refused(why) => CountAnswer::Refused(why),
     }
 }
 

@@ -1,6 +1,8 @@
--- `by_builtin::gps_to_civil`: one lookup, at the TAI reading, in a table that is on days.
-use mathlib.Core.Path.{_∙_}
+-- `by_builtin::gps_to_civil`: one lookup, at the TAI reading, in a table that is on days; or what the step to TAI refuses.
+use mathlib.Core.Path.{refl, sym, ap, _∙_}
 use borrow.Author.Needs.{needs}
+use Rattle.counts.specs.Answers.{countIn}
+use Rattle.tables.specs.Entries.{lookup}
 use Rattle.builtin.specs.Builtin.{builtin}
 use Rattle.builtin.proofs.Regular.{builtin-on-days}
 use Rattle.readings.proofs.ByLookup.{read-by}
@@ -8,14 +10,21 @@ use Rattle.readings.proofs.by_builtin.gps_to_civil as call
 
 returns : call.Tie.Need-returns
 returns c =
-    let found = c .before in
-    let at = found .before in
-    let reading = at .before in
-    let tai = reading .before in
+    let at = c .before .before in
+    let known = at .before .before .tai .given in
+    let tai = at .before .before .before .before in
     c .read .ensures
-    ∙ read-by builtin builtin-on-days (tai .before .args .gps .0) (tai .tai-of .ensures) (reading .reading-of .ensures)
-    (found .entry-told .ensures ∙ at .event-at .ensures .0)
+    ∙ read-by builtin builtin-on-days (tai .before .args .gps .0) (sym (ap countIn (known .1)) ∙ tai .tai-of .ensures) refl
+    (c .before .entry-told .ensures ∙ at .event-at .ensures .0)
+
+returns-2 : call.Tie.Need-returns-2
+returns-2 c =
+    let known = c .before .tai2 .given in
+    let tai = c .before .before .before in
+    read-by builtin builtin-on-days (tai .before .args .gps .0) {found = lookup builtin 0}
+    (sym (ap countIn (known .1)) ∙ tai .tai-of .ensures) refl refl
 
 pub gps-to-civil-spec : {M : Type 1} → call.Statement.statement M
 gps-to-civil-spec =
-    call.Tie.close (call.Tie.spec (search needs) (search needs) (search needs) (search needs) (search needs) returns)
+    call.Tie.close
+    (call.Tie.spec (search needs) (search needs) (search needs) (search needs) (search needs) (search needs) returns returns-2)

@@ -10,6 +10,7 @@ use Rattle.refusals.specs.Outcome.{Outcome, answered, refused, valueIn, then}
 use Rattle.counts.specs.Answers.{countIn}
 use Rattle.counts.specs.Exact.{up}
 use Rattle.scales.specs.Scales.{taiMinusGps}
+use Rattle.civil.specs.Real.{ofReal}
 use Rattle.tables.specs.Answers.{lookupIn}
 use Rattle.tables.specs.Entries.{onDays, lookup}
 use Rattle.tables.specs.Expiry.{staleAt, dated}
@@ -64,7 +65,8 @@ returns-2 c =
     let reading-2 = stale .before in
     let tai-2 = reading-2 .before in
     let expiry = tai-2 .before in
-    let gps = expiry .before in
+    let real = expiry .before in
+    let gps = real .before in
     let found = gps .before in
     let reading = found .before in
     let tai = reading .before in
@@ -85,9 +87,11 @@ returns-2 c =
     ∙ gps-from-store (holds b) (es b) count (first-reading .first-reading-of .ensures)
     (told tested ∙ one-test b _) (last .last-reading-of .ensures) (second .look-up .ensures)
     ∙ ap (λ v. cond v (then count (utcToGps (es b))) (refused 8)) (k .passes) in
-    let counts = gps .back .ensures
+    let of-fields = gps .back .ensures
     ∙ back-by (es b) on (a .fields) (utc .to-utc-nanos .ensures) first-is
     (reading .reading-of .ensures ∙ ap (valueIn 0) (tai .tai-of .ensures)) (found .look-up2 .ensures) in
+    let counts : countIn (real .if-real .result) ≡ civilToGps (es b) (a .fields)
+    = rw on (real .if-real .ensures ∙ ap (ofReal (a .fields)) of-fields) in
     let tai-is = tai-2 .tai-of2 .ensures ∙ ap (λ (o : Outcome ℕ). then o (up taiMinusGps)) counts in
     let reads = stale .is-stale .ensures
     ∙ (λ i. staleAt ((expiry .expiry .ensures ∙ of-image b (k .size)) i)
@@ -123,6 +127,7 @@ civil-to-gps-spec =
     (λ c κs. search needs)
     (λ c κs. search needs)
     look-up-requires-2
+    (λ c κs. search needs)
     (λ c κs. search needs)
     (λ c κs. search needs)
     (λ c κs. search needs)
