@@ -5,8 +5,8 @@ use borrow.Author.Needs.{needs}
 use denote.Ref.{now}
 use lib.ListN.{length, take}
 use Rattle.lines.proofs.Blocks.{AtLine, starts, end-inside, stops, ends, fits, next}
-use Rattle.civilgps.specs.Answer.{answerTo}
-use Rattle.civilgps.proofs.WholeInput.{answers-lines}
+use Rattle.line_answers.specs.Civilgps.{answerTo}
+use Rattle.line_answers.proofs.CivilgpsInput.{answers-lines}
 use Rattle.civilgps.proofs.answer_block as call
 
 abbrev Inv-loop : call.Tie.InvT-loop

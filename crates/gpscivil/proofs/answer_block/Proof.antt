@@ -5,8 +5,8 @@ use borrow.Author.Needs.{needs}
 use denote.Ref.{now}
 use lib.ListN.{length, take}
 use Rattle.lines.proofs.Blocks.{AtLine, starts, end-inside, stops, ends, fits, next}
-use Rattle.gpscivil.specs.Answer.{answerTo}
-use Rattle.gpscivil.proofs.WholeInput.{answers-lines}
+use Rattle.line_answers.specs.Gpscivil.{answerTo}
+use Rattle.line_answers.proofs.GpscivilInput.{answers-lines}
 use Rattle.gpscivil.proofs.answer_block as call
 
 abbrev Inv-loop : call.Tie.InvT-loop

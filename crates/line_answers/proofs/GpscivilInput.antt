@@ -12,7 +12,7 @@ use Rattle.civil.specs.declared.CivilDateTime.{CivilDateTime}
 use Rattle.stamps.specs.Form.{written}
 use Rattle.lines.proofs.OutcomeLines as outcome
 use Rattle.lines.proofs.WholeInput as law
-use Rattle.gpscivil.specs.Answer.{readingOfLine, answerTo}
+use Rattle.line_answers.specs.Gpscivil.{readingOfLine, answerTo}
 
 -- ---- the statement
 abbrev pub GpscivilCutAnywhere : Type 0

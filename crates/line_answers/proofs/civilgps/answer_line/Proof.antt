@@ -3,7 +3,7 @@ use mathlib.Core.Path.{refl, sym, ap, _∙_}
 use borrow.Author.Needs.{needs}
 use borrow.Author.Tests.{lt-ltb, le-ltb}
 use Rattle.scales.specs.Answers.{gpsIn}
-use Rattle.civilgps.proofs.answer_line as call
+use Rattle.line_answers.proofs.civilgps.answer_line as call
 
 returns : call.Tie.Need-returns
 returns c = let short = c .if1 .taken in rw lt-ltb (refl, refl)

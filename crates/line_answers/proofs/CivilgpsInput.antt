@@ -11,7 +11,7 @@ use Rattle.stamps.specs.Form.{first, last, stampRead}
 use Rattle.stamps.proofs.Between.{not-as-long}
 use Rattle.lines.proofs.OutcomeLines as outcome
 use Rattle.lines.proofs.WholeInput as law
-use Rattle.civilgps.specs.Answer.{utcOfLine, gpsOfLine, answerTo}
+use Rattle.line_answers.specs.Civilgps.{gpsOfLine, answerTo}
 
 -- ---- the statement
 abbrev pub CivilgpsCutAnywhere : Type 0
@@ -20,7 +20,7 @@ CivilgpsCutAnywhere = law.CutAnywhere answerTo
 -- ---- its proof
 -- the form has 30 bytes
 too-long : (l : List ℕ) → 127 < length l → gpsOfLine l ≡ refused 10
-unfolding utcOfLine gpsOfLine stampRead
+unfolding gpsOfLine stampRead
 too-long l h = rw (not-as-long first last l (λ e. omega arith))
 
 pub answers-lines : law.AnswersLines 31 answerTo

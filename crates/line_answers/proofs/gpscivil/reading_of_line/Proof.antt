@@ -2,8 +2,8 @@
 use mathlib.Core.Path.{sym, ap, _∙_}
 use borrow.Author.Needs.{needs}
 use Rattle.counts.specs.Answers.{countIn}
-use Rattle.gpscivil.specs.Answer.{readingOfLine}
-use Rattle.gpscivil.proofs.reading_of_line as call
+use Rattle.line_answers.specs.Gpscivil.{readingOfLine}
+use Rattle.line_answers.proofs.gpscivil.reading_of_line as call
 
 returns : call.Tie.Need-returns
 unfolding readingOfLine

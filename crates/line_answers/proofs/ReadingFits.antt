@@ -20,7 +20,7 @@ use Rattle.readings.proofs.Answered.{is-reading}
 use Rattle.words.specs.Decimal.{allDigits, valueOf, countRead}
 use Rattle.stamps.specs.Form.{Fits}
 use Rattle.stamps.proofs.Years.{fits-on-day}
-use Rattle.gpscivil.specs.Answer.{readingOfLine}
+use Rattle.line_answers.specs.Gpscivil.{readingOfLine}
 
 -- fields that fit, or 23:59:60 in their place
 or-sixty : {c : CivilDateTime} (q : Bool) → Fits c
@@ -42,7 +42,7 @@ fits-in-day : (z n : ℕ) → 0 < z → z < 2932896 → Fits (fieldsInDay z n)
 fits-in-day z n since few =
     or-sixty (ltb n (daySeconds * second)) (fits-on-day z (n / second) (n % second) since few (omega arith))
 
-reading-fits : (gps : ℕ) → gps < 2 ^ 64 → Fits (readingOf builtin gps)
+pub reading-fits : (gps : ℕ) → gps < 2 ^ 64 → Fits (readingOf builtin gps)
 reading-fits gps h =
     let d = day-of builtin builtin-on-days gps in
     fits-in-day (dayOfGps builtin gps .0) (dayOfGps builtin gps .1) (omega (arith, d .from)) (omega (arith, d .exact))

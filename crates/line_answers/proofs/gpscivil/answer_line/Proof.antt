@@ -3,8 +3,8 @@ use mathlib.Core.Path.{refl, sym, ap, _∙_}
 use borrow.Author.Needs.{needs}
 use borrow.Author.Tests.{lt-ltb, le-ltb}
 use Rattle.readings.specs.Answers.{readingIn}
-use Rattle.gpscivil.proofs.ReadingFits.{line-fits}
-use Rattle.gpscivil.proofs.answer_line as call
+use Rattle.line_answers.proofs.ReadingFits.{line-fits}
+use Rattle.line_answers.proofs.gpscivil.answer_line as call
 
 returns : call.Tie.Need-returns
 returns c = let short = c .if1 .taken in rw lt-ltb (refl, refl)

@@ -5,7 +5,7 @@ use borrow.Author.Needs.{needs}
 use denote.Ref.{now}
 use Rattle.words.proofs.Stores.{joined}
 use Rattle.stamps.specs.Form.{written}
-use Rattle.gpscivil.proofs.put_civil as call
+use Rattle.line_answers.proofs.gpscivil.put_civil as call
 
 returns : call.Tie.Need-returns
 returns c =

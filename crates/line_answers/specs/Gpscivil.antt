@@ -13,6 +13,6 @@ use Rattle.lines.specs.OutcomeLine.{lineOf}
 unfoldable pub readingOfLine : List ℕ → Outcome CivilDateTime
 readingOfLine l = then (countRead l) (gpsToCivil builtin)
 
--- the answer as a line; a line of more than 127 bytes is refused, by 10 (proofs/WholeInput.antt)
+-- the answer as a line; a line of more than 127 bytes is refused, by 10 (proofs/GpscivilInput.antt)
 abbrev pub answerTo : List ℕ → List ℕ
 answerTo l = lineOf (changed written (readingOfLine l))

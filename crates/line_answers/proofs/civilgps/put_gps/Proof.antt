@@ -8,7 +8,7 @@ use lib.ListN.{length-append}
 use Rattle.words.specs.Decimal.{decimal}
 use Rattle.words.proofs.Stores.{joined}
 use Rattle.words.proofs.WayBack.{decimal-length}
-use Rattle.civilgps.proofs.put_gps as call
+use Rattle.line_answers.proofs.civilgps.put_gps as call
 
 returns : call.Tie.Need-returns
 returns c =

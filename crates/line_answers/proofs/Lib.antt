@@ -1,0 +1,4 @@
+pub mod ReadingFits
+pub mod GpscivilInput
+pub mod CivilgpsInput
+pub mod Calls

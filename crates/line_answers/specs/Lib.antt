@@ -1,0 +1,2 @@
+pub mod Gpscivil
+pub mod Civilgps
