@@ -1,7 +1,8 @@
 -- What a conversion between UTC and GPS, or a scale at a fixed difference, gives is a count or one of the refusals, so what holds of these holds of it.
 -- The same of a civil reading and of what fields go back to.
 use mathlib.Core.Bool.{Bool, true, false, cond, _&&_}
-use mathlib.Core.List.{List}
+use mathlib.Core.List.{List, [], _∷_}
+use mathlib.Core.Option.{Option, none, some}
 use Prim.Native.Nat.{ℕ, _+_, _*_, _^_}
 use lib.Dec.{ltb, leb, eqb}
 use lib.IntN.{ℤ, pos, negsuc, natAbs, _+ℤ_, _-ℤ_}
@@ -9,7 +10,8 @@ use lib.Signed.{nonNeg, ltZ}
 use Rattle.refusals.specs.Number.{numberOf}
 use Rattle.refusals.specs.Outcome.{Outcome, answered, refused, valueIn, then, changed}
 use Rattle.refusals.specs.declared.Refusal.{Refusal}
-use Rattle.refusals.specs.declared.Refusal.the-variants.{Overflow, BadTable, OffsetRange, NotOnDays, NoInsertedSecond}
+use Rattle.refusals.specs.declared.Refusal.the-variants.{Overflow, BadTable, OffsetRange, InvalidNanos, NotOnDays, NoInsertedSecond}
+use Rattle.refusals.specs.declared.Refusal.the-variants.{NoSuchMonth, NoSuchDay, NoSuchHour, NoSuchMinute, NoSuchSecond}
 use Rattle.refusals.proofs.Given.{Numbered}
 use Rattle.refusals.proofs.Tells.{number-not-zero}
 use Rattle.counts.specs.Exact.{countOf, up, down}
@@ -17,7 +19,9 @@ use Rattle.counts.specs.Units.{second}
 use Rattle.scales.specs.Scales.{taiMinusGps}
 use Rattle.calendar.specs.Formula.{dayOf}
 use Rattle.calendar.specs.Dates.{utcEpochDay}
+use Rattle.calendar.specs.Calendar.{hasMonth, hasDay}
 use Rattle.civil.specs.Fields.{dateIn, timeOf, countAt}
+use Rattle.civil.specs.Real.{unlessRefused, ofReal}
 use Rattle.civil.specs.declared.CivilDateTime.{CivilDateTime}
 use Rattle.tables.specs.Entries.{Entry, offsetAt, regular, day, onDays}
 use Rattle.tables.specs.Slots.{entriesOf, validTable}
@@ -31,6 +35,25 @@ module _ {A : Type 0} (P : Outcome A → Type 0) where
   either : (b : Bool) (x y : Outcome A) → P x → P y → P (cond b x y)
   either true x y p q = p
   either false x y p q = q
+
+-- the number of the first test that fails, where the tests are told with their refusals
+abbrev refusing : List (Bool × Refusal) → Option ℕ
+refusing [] = none
+refusing ((passes, w) ∷ ts) = cond passes (refusing ts) (some (numberOf w))
+
+module _ {A : Type 0} (P : Outcome A → Type 0) (of-refusal : (w : Refusal) → P (refused (numberOf w))) where
+  by-tests : (ts : List (Bool × Refusal)) (a : Outcome A) → P a → P (unlessRefused (refusing ts) a)
+  by-tests [] a p = p
+  by-tests ((true, w) ∷ ts) a p = by-tests ts a p
+  by-tests ((false, w) ∷ ts) a p = of-refusal w
+
+  -- an answer to fields that exist
+  if-real : (c : CivilDateTime) (a : Outcome A) → P a → P (ofReal c a)
+  if-real c a p =
+      by-tests
+      ((hasMonth (dateIn c), NoSuchMonth) ∷ (hasDay (dateIn c), NoSuchDay) ∷ (ltb (c .hour) 24, NoSuchHour) ∷
+      (ltb (c .minute) 60, NoSuchMinute) ∷ (leb (c .second) 60, NoSuchSecond) ∷ (ltb (c .nanos) second, InvalidNanos) ∷ [])
+      a p
 
 module _ (P : Outcome ℕ → Type 0) (of-count : (n : ℕ) → P (answered n))
     (of-refusal : (w : Refusal) → P (refused (numberOf w))) where
@@ -56,11 +79,11 @@ module _ (P : Outcome ℕ → Type 0) (of-count : (n : ℕ) → P (answered n))
   -- fields that go back
   pub civil-to-gps : (es : List Entry) (c : CivilDateTime) → P (civilToGps es c)
   civil-to-gps es c =
-      either P (onDays es) (cond sixty so other) (refused 13)
-      (either P sixty so other (read (then (countAt c) (utcToGps es)))
+      either P (onDays es) (ofReal c (cond sixty so other)) (refused 13)
+      (if-real P of-refusal c (cond sixty so other) (either P sixty so other (read (then (countAt c) (utcToGps es)))
       (either (λ o. P (then o (utcToLater es))) (nonNeg z) (countOf (pos n)) (refused 1)
       (either (λ o. P (then o (utcToLater es))) (ltb n (2 ^ 64)) (answered n) (refused 1) (later n) (of-refusal Overflow))
-      (of-refusal Overflow)))
+      (of-refusal Overflow))))
       (of-refusal NotOnDays)
     where
       z : ℤ

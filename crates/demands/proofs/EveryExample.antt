@@ -2,7 +2,8 @@
 -- civil readings by lookups instead of the walk over days.
 use mathlib.Core.Path.{_≡_, refl, sym, ap, _∙_}
 use mathlib.Core.Bool.{true, cond}
-use Prim.Native.Nat.{ℕ, _*_}
+use Prim.Native.Nat.{ℕ, _*_, _^_, _<_}
+use native.Mathlib.Omega.{arith}
 use lib.IntN.{pos}
 use Rattle.refusals.specs.Outcome.{answered, refused}
 use Rattle.counts.specs.Units.{second}
@@ -18,7 +19,7 @@ use Rattle.builtin.specs.Builtin.{builtin, events, thresholdOf, entriesFrom}
 use Rattle.builtin.proofs.Regular.{builtin-on-days}
 use Rattle.readings.specs.Readings.{gpsToCivil, civilToGps, sameFields}
 use Rattle.readings.proofs.ByLookup as by-lookup
-use Rattle.readings.proofs.ReadBack.{reads-back}
+use Rattle.readings.proofs.ReadBack.{read-exactly}
 use Rattle.demands.specs.Examples.{from, Every, _also_, none-left, examples}
 
 last-day : dateOf (pos 214_233) ≡ on (pos 2556) 7 20
@@ -64,13 +65,16 @@ december-60 =
     sym (by-lookup.reads builtin builtin-on-days (1_167_264_017 * second))
     ∙ ap (λ (d : Date). answered (at 23 59 60 0 d)) last-of-2016
 
+read-back : (c : CivilDateTime) (g : ℕ) → g < 2 ^ 64 → gpsToCivil builtin g ≡ answered c → civilToGps builtin c ≡ answered g
+read-back c g fits e = read-exactly builtin builtin-on-days c g .1 (fits, e)
+
 -- the lenient count of that second is the midnight of 30 June
 a-day-early : civilToGps builtin (fields (pos 1981) 6 29 23 59 60 0) ≡ refused 14
-unfolding builtin events thresholdOf entriesFrom formula era yoe doy doe inForce lookup
+unfolding builtin events thresholdOf entriesFrom formula era yoe doy doe daysIn inForce lookup
 a-day-early =
     let c = fields (pos 1981) 6 29 23 59 60 0 in
-    sym (by-lookup.reads-back builtin builtin-on-days c)
-    ∙ ap (λ (d : Date). cond (sameFields (at 0 0 0 0 d) c) (answered (46_742_400 * second)) (refused 14)) june-30
+    rw builtin-on-days (sym (by-lookup.reads-back builtin builtin-on-days c)
+    ∙ ap (λ (d : Date). cond (sameFields (at 0 0 0 0 d) c) (answered (46_742_400 * second)) (refused 14)) june-30)
 
 on-the-second-day : onDays (from 0 (86_420 * second)) ≡ true
 unfolding neighbours
@@ -83,7 +87,7 @@ first-day-60 =
     ∙ ap (λ (d : Date). answered (at 23 59 60 0 d)) gps-day-0
 
 pub every-example : (week : ℕ) → Every (examples week)
-unfolding builtin events thresholdOf entriesFrom formula era yoe doy doe neighbours inForce lookup lastOr joinRefusal paired
+unfolding builtin events thresholdOf entriesFrom formula era yoe doy doe daysIn neighbours inForce lookup lastOr joinRefusal paired
 every-example week =
     refl also refl also refl also refl also refl also refl also refl also refl also refl also refl also refl also refl also
     refl also refl also refl also refl also refl also refl also refl also refl also refl also refl also refl also refl also
@@ -95,7 +99,9 @@ every-example week =
     refl also refl also refl also refl also
     -- civil readings
     june-60 also july-1 also
-    reads-back builtin builtin-on-days (fields (pos 1981) 6 30 23 59 60 999_999_999) 46_828_800_999_999_999 june-60 also
-    reads-back builtin builtin-on-days (fields (pos 1981) 7 1 0 0 0 0) (46_828_801 * second) july-1 also
+    read-back (fields (pos 1981) 6 30 23 59 60 999_999_999) 46_828_800_999_999_999 (omega arith) june-60 also
+    read-back (fields (pos 1981) 7 1 0 0 0 0) (46_828_801 * second) (omega arith) july-1 also
     ap (at 23 59 60 0) last-of-2016 also december-60 also
-    a-day-early also refl also first-day-60 also refl also refl also none-left
+    a-day-early also refl also first-day-60 also refl also refl also
+    -- fields that do not exist
+    refl also refl also refl also refl also refl also refl also refl also refl also refl also refl also refl also none-left

@@ -13,3 +13,4 @@ pub mod Pinned
 pub mod Stale
 pub mod CivilReadings
 pub mod ReadingCalls
+pub mod RoundTrips

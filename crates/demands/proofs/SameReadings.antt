@@ -25,16 +25,18 @@ module _ (es : List Entry) {there there′ : ℕ → Outcome CivilDateTime} {bac
     elsewhere = λ g u c r. t .elsewhere g u c (again r);
     rises = λ g g′ c c′ r r′. t .rises g g′ c c′ (again r) (again r′);
     no-two = λ g g′ c r r′. t .no-two g g′ c (again r) (again r′);
-    reads-back = λ g c r. from c ∙ t .reads-back g c (again r);
-    sixty-exactly = λ c s g.
-        let (only, all) = t .sixty-exactly c s g in
+    read-exactly = λ c g.
+        let (only, all) = t .read-exactly c g in
         (λ e. here (only (sym (from c) ∙ e)), λ r. from c ∙ all (again r));
-    sixty-refused = λ c s.
-        let (only, all) = t .sixty-refused c s in
+    out-of-range = λ c k.
+        let (only, all) = t .out-of-range c k in
+        (λ o. let (e, no-14, no-1) = only o in (from c ∙ e, no-14, no-1), λ (e, no-14, no-1). all (sym (from c) ∙ e, no-14, no-1));
+    sixty-refused = λ c r s.
+        let (only, all) = t .sixty-refused c r s in
+        (λ e g r. only (sym (from c) ∙ e) g (again r), λ none. from c ∙ all (λ g r. none g (here r)));
+    others-refused = λ c r s.
+        let (only, all) = t .others-refused c r s in
         (λ e g r. only (sym (from c) ∙ e) g (again r), λ none. from c ∙ all (λ g r. none g (here r)));
     has-their-count = λ c g s e. t .has-their-count c g s (sym (from c) ∙ e);
     the-later = λ c g s e. t .the-later c g s (sym (from c) ∙ e);
-    others-refused = λ c s.
-        let (only, all) = t .others-refused c s in
-        (λ (k, e). only (k, sym (from c) ∙ e), λ none. let (k, e) = all none in (k, from c ∙ e));
   }

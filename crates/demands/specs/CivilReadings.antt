@@ -5,6 +5,7 @@ use mathlib.Core.Path.{_≡_}
 use mathlib.Core.Logic.{_↔_, _≢_}
 use mathlib.Core.Bool.{true, false}
 use mathlib.Core.List.{List, List·Memᴰ}
+use mathlib.Core.Option.{none, some}
 use Prim.Native.Nat.{ℕ, _+_, _/_, _%_, _^_, _≤_, _<_}
 use lib.ListN.{drop}
 use lib.IntN.{pos}
@@ -13,6 +14,7 @@ use Rattle.counts.specs.Units.{second}
 use Rattle.scales.specs.Scales.{taiMinusGps}
 use Rattle.calendar.specs.Calendar.{dateOf}
 use Rattle.civil.specs.Fields.{fields, fieldsOf, countAt}
+use Rattle.civil.specs.Real.{outOfRange}
 use Rattle.civil.specs.declared.CivilDateTime.{CivilDateTime}
 use Rattle.tables.specs.Entries.{Entry, threshold, day, onDays}
 use Rattle.conversions.specs.Conversions.{gpsToUtc}
@@ -50,20 +52,23 @@ pub record CivilReadings (es : List Entry) (there : ℕ → Outcome CivilDateTim
   pub rises : (g g′ : ℕ) (c c′ : CivilDateTime) → ReadAs there g c → ReadAs there g′ c′ → g < g′ → earlier c c′ ≡ true
   -- so no two have one reading,
   pub no-two : (g g′ : ℕ) (c : CivilDateTime) → ReadAs there g c → ReadAs there g′ c → g ≡ g′
-  -- and a reading goes back to its count.
-  pub reads-back : (g : ℕ) (c : CivilDateTime) → ReadAs there g c → back c ≡ answered g
-  -- Fields whose second is 60 go to a count exactly if it is read so,
-  pub sixty-exactly : (c : CivilDateTime) → c .second ≡ 60 → (g : ℕ) → (back c ≡ answered g) ↔ ReadAs there g c
-  -- and are refused 14 exactly if none is.
-  pub sixty-refused : (c : CivilDateTime) → c .second ≡ 60 → (back c ≡ refused 14) ↔ ((g : ℕ) → ReadAs there g c → ⊥)
-  -- Any other fields go to a count that has their lenient UTC count,
+  -- and fields go to a count exactly if it is read as they are.
+  pub read-exactly : (c : CivilDateTime) (g : ℕ) → (back c ≡ answered g) ↔ ReadAs there g c
+  -- Of the other fields those with one out of range are refused by the number of the first that is, which is neither 14
+  -- nor 1.
+  pub out-of-range : (c : CivilDateTime) (k : ℕ)
+      → (outOfRange c ≡ some k) ↔ ((back c ≡ refused k) × (k ≢ 14) × (k ≢ 1))
+  -- Fields that exist are refused 14 where their second is 60,
+  pub sixty-refused : (c : CivilDateTime) → outOfRange c ≡ none → c .second ≡ 60
+      → (back c ≡ refused 14) ↔ ((g : ℕ) → ReadAs there g c → ⊥)
+  -- and else 1.
+  pub others-refused : (c : CivilDateTime) → outOfRange c ≡ none → c .second ≢ 60
+      → (back c ≡ refused 1) ↔ ((g : ℕ) → ReadAs there g c → ⊥)
+  -- Where the second is not 60, the answer is a count that has the UTC count of the fields by the lenient formula,
   pub has-their-count : (c : CivilDateTime) (g : ℕ) → c .second ≢ 60 → back c ≡ answered g → HasCountOf es g c
-  -- the later where two have it,
+  -- the later where two have it.
   pub the-later : (c : CivilDateTime) (g : ℕ) → c .second ≢ 60 → back c ≡ answered g
       → (g′ : ℕ) → HasCountOf es g′ c → g′ ≤ g
-  -- and are refused exactly if none has.
-  pub others-refused : (c : CivilDateTime) → c .second ≢ 60
-      → ((k : ℕ) × (back c ≡ refused k)) ↔ ((g : ℕ) → HasCountOf es g c → ⊥)
 
 -- over every list on days
 abbrev pub ByLists : Type 0

@@ -148,4 +148,18 @@ examples week =
     gpsToCivil (from 0 (86_420 * second)) (86_400 * second) is answered (fields (pos 1980) 1 6 23 59 60 0) ∷
     gpsToCivil (from 0 (86_421 * second)) (86_400 * second) is refused 13 ∷
     civilToGps (from 0 (86_421 * second)) (fields (pos 1980) 1 6 23 59 60 0) is refused 13 ∷
+    -- fields that do not exist: the first that is out of range is told, and 13 before it
+    civilToGps (from 0 (86_421 * second)) (fields (pos 2023) 13 31 24 60 61 1_000_000_000) is refused 13 ∷
+    civilToGps builtin (fields (pos 2023) 13 31 24 60 61 1_000_000_000) is refused 15 ∷
+    civilToGps builtin (fields (pos 2023) 2 31 24 60 61 1_000_000_000) is refused 16 ∷
+    civilToGps builtin (fields (pos 2023) 2 28 24 60 61 1_000_000_000) is refused 17 ∷
+    civilToGps builtin (fields (pos 2023) 2 28 23 60 61 1_000_000_000) is refused 18 ∷
+    civilToGps builtin (fields (pos 2023) 2 28 23 59 61 1_000_000_000) is refused 19 ∷
+    civilToGps builtin (fields (pos 2023) 2 28 23 59 60 1_000_000_000) is refused 11 ∷
+    -- 1900 was no leap year, and is before GPS counts begin; 2024 was one
+    civilToGps builtin (fields (pos 1900) 2 29 0 0 0 0) is refused 16 ∷
+    civilToGps builtin (fields (pos 1900) 2 28 0 0 0 0) is refused 1 ∷
+    civilToGps builtin (fields (pos 2024) 2 29 0 0 0 0) is answered (1_393_200_018 * second) ∷
+    -- the lenient formula takes 31 February for 3 March
+    countAt (fields (pos 2023) 2 31 0 0 0 0) is countAt (fields (pos 2023) 3 3 0 0 0 0) ∷
     []

@@ -4,6 +4,7 @@ pub mod OfCalls
 pub mod OfShifted
 pub mod CivilReadings
 pub mod OfReadings
+pub mod RoundTrips
 pub mod RefusalsLeave
 pub mod Stale
 pub mod Examples
