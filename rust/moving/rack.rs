@@ -95,6 +95,18 @@ fn unix_and_civil(count: u64) {
     println!("{}", CivilDateTime::from_utc_nanos(count).map_err(why) == Ok(civil));
     println!("{:?} {:?}", civil.to_utc_nanos().map_err(why), nanos(civil.to_utc(), Time::<Utc>::as_nanos));
     println!("{:?}", CivilDateTime { year: 1971, ..civil }.to_utc_nanos().map_err(why));
+    // no field is checked: old logs have such dates and times
+    for unreal in [
+        CivilDateTime { month: 0, ..civil },
+        CivilDateTime { month: 13, ..civil },
+        CivilDateTime { year: 2023, month: 2, day: 31, ..civil },
+        CivilDateTime { day: 0, ..civil },
+        CivilDateTime { hour: 24, minute: 60, ..civil },
+        CivilDateTime { second: 60, ..civil },
+        CivilDateTime { second: 255, nanos: u32::MAX, ..civil },
+    ] {
+        println!("{:?} {:?}", unreal.to_utc_nanos().map_err(why), nanos(unreal.to_utc(), Time::<Utc>::as_nanos));
+    }
 }
 
 fn conversions<P: LeapSecondsProvider>(count: u64, table: &P) {

@@ -50,11 +50,15 @@ impl CivilDate {
     }
 }
 
-/// A date and a time of day. No field is checked: hour 24 is the next day's hour 0.
+/// A date and a time of day. The fields can hold any numbers.
 ///
-/// Second 60 is an inserted second in a reading of a GPS count ([`Gps::to_civil`](crate::Gps::to_civil)), and
-/// [`to_gps`](CivilDateTime::to_gps) takes it only where there is one. [`to_utc`](CivilDateTime::to_utc) is lenient:
-/// there second 60 is the next minute's second 0, whether one was inserted or not.
+/// - [`to_gps`](CivilDateTime::to_gps) and its forms check every field. They refuse a date or a time that does not
+///   exist, and their [`CivilError`](crate::CivilError) says which field is wrong.
+/// - [`to_utc`](CivilDateTime::to_utc) and [`to_utc_nanos`](CivilDateTime::to_utc_nanos) check no field. They are
+///   gnss-time's, and read old logs: 31 February 2023 is 3 March, and hour 24 is the next day's hour 0.
+///
+/// Second 60 is an inserted second in a reading of a GPS count ([`Gps::to_civil`](crate::Gps::to_civil)), and `to_gps`
+/// takes it only where there is one. For `to_utc` it is the next minute's second 0, whether one was inserted or not.
 ///
 /// The order is that of the fields, from the year on. Of two GPS counts the later has the later reading by the same
 /// table. Fields that are no reading are ordered as they are written: hour 24 comes before the next day's hour 0.
@@ -69,6 +73,10 @@ impl CivilDate {
 /// assert!(noon.is_whole_second());
 /// assert_eq!(CivilDateTime { year: 1971, ..noon }.to_utc(), Err(Error::Overflow));
 /// assert!(noon < CivilDateTime { nanos: 1, ..noon });
+///
+/// let typed = CivilDateTime { year: 2023, month: 2, day: 31, ..noon };
+/// assert_eq!(typed.to_gps().unwrap_err().to_string(), "day 31 of 2023-02, which has 28");
+/// assert_eq!(typed.to_utc()?.to_civil(), CivilDateTime { month: 3, day: 3, ..typed });
 /// # Ok::<(), plaitgate::Error>(())
 /// ```
 #[derive(Debug, Clone, Copy, PartialEq, Eq, PartialOrd, Ord, Hash)]
@@ -89,14 +97,26 @@ impl CivilDateTime {
         sys::civil_from_utc_nanos(nanos).map(Self::of_fields)
     }
 
-    /// The nanoseconds from 1972-01-01. Refuses with [`Overflow`](crate::Error::Overflow) before that date and above 64
-    /// bits.
+    /// The nanoseconds from 1972-01-01. It checks no field, so that old logs are read as they always were: 31 February
+    /// 2023 is 3 March, and hour 24 is the next day's hour 0. [`to_gps`](Self::to_gps) refuses such fields.
+    ///
+    /// Refuses with [`Overflow`](crate::Error::Overflow) before 1972-01-01 and above 64 bits.
     pub fn to_utc_nanos(self) -> Result<u64> {
         sys::civil_to_utc_nanos(self.year, self.month, self.day, self.hour, self.minute, self.second, self.nanos)
     }
 
-    /// The UTC count. Refuses as `to_utc_nanos`. Second 60 is the next minute's second 0: [`to_gps`](Self::to_gps) keeps
-    /// an inserted second.
+    /// The UTC count. It checks no field and refuses as `to_utc_nanos`. Second 60 is the next minute's second 0:
+    /// [`to_gps`](Self::to_gps) keeps an inserted second.
+    ///
+    /// ```
+    /// use plaitgate::{CivilDateTime, Error};
+    ///
+    /// let typed = CivilDateTime { year: 2023, month: 2, day: 31, hour: 0, minute: 0, second: 0, nanos: 0 };
+    /// let third_of_march = CivilDateTime { month: 3, day: 3, ..typed };
+    /// assert_eq!(typed.to_utc()?, third_of_march.to_utc()?);
+    /// assert_eq!(typed.to_gps().unwrap_err().error(), Error::NoSuchDay);
+    /// # Ok::<(), plaitgate::Error>(())
+    /// ```
     pub fn to_utc(self) -> Result<Utc> {
         sys::civil_to_utc(self.year, self.month, self.day, self.hour, self.minute, self.second, self.nanos)
             .map(Utc::from_nanos)

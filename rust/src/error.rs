@@ -102,6 +102,21 @@ refusals! {
     14 NoInsertedSecond:
         "second 60 is given for a minute that has none.",
         "there is no second 60 at that minute, or it is past the range of counts";
+    15 NoSuchMonth:
+        "the month of a date is not 1 to 12.",
+        "the month is not 1 to 12";
+    16 NoSuchDay:
+        "the month of that year does not have the day: 31 February, or 29 February of 2023.",
+        "the month does not have the day";
+    17 NoSuchHour:
+        "the hour of a time of day is above 23.",
+        "the hour is above 23";
+    18 NoSuchMinute:
+        "the minute of a time of day is above 59.",
+        "the minute is above 59";
+    19 NoSuchSecond:
+        "the second of a time of day is above 60.",
+        "the second is above 60";
 }
 
 /// What a call that may refuse gives back.

@@ -1,10 +1,11 @@
 //! GPS, UTC, GLONASS, TAI, Galileo and BeiDou counts into each other, into Unix time, into weeks, days and civil dates,
 //! for hosts in Rust. The work is done by Plaitgate's library, every function of which is proved against its contract;
 //! this crate gives its calls the names and shapes they have in gnss-time. It computes one thing itself, by `core`'s
-//! checked arithmetic: the units and sums of a [`Duration`].
+//! checked arithmetic: the units and sums of a [`Duration`]. The words of a refusal are its own too.
 //!
 //! Every call is total: any input gets an answer or a refusal. A refusal is an [`Error`], which has a number, or `None`
-//! where gnss-time has it so. No call panics.
+//! where gnss-time has it so. A [`ListError`] or a [`CivilError`] holds one, and says what is wrong with the list or the
+//! fields. No call panics.
 //!
 //! ```
 //! use plaitgate::{DurationParts, Gps};
@@ -38,6 +39,7 @@
 #![deny(unsafe_op_in_unsafe_fn, unsafe_code)]
 
 mod civil;
+mod civil_error;
 mod convert;
 mod dated;
 mod duration;
@@ -58,6 +60,7 @@ mod utc;
 mod weeks;
 
 pub use civil::{CivilDate, CivilDateTime};
+pub use civil_error::CivilError;
 pub use convert::{glonass_to_gps, glonass_to_utc, gps_to_glonass, gps_to_utc, utc_to_glonass, utc_to_gps};
 pub use convert::{glonass_to_gps_dated, gps_to_glonass_dated, gps_to_utc_dated, utc_to_gps_dated};
 pub use dated::Dated;

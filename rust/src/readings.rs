@@ -1,7 +1,7 @@
 //! Civil readings of GPS counts, in which an inserted second is 23:59:60, and back. gnss-time has none.
 
 use crate::sys::{self, Image};
-use crate::{CivilDateTime, Dated, Gps, LeapSeconds, LeapSecondsProvider, Result};
+use crate::{CivilDateTime, CivilError, Dated, Gps, LeapSeconds, LeapSecondsProvider, Result};
 
 impl Gps {
     /// The civil reading by the built-in table: the date and the time of day, in which an inserted second is 23:59:60.
@@ -72,14 +72,18 @@ impl Gps {
 }
 
 impl CivilDateTime {
-    /// The GPS count by the built-in table. It reads back what [`Gps::to_civil`] gives.
+    /// The GPS count by the built-in table: the count whose civil reading ([`Gps::to_civil`]) is these fields. It takes
+    /// the fields of a reading, and no others.
     ///
-    /// With second 60 it is the count whose reading is these fields. Refuses with
-    /// [`NoInsertedSecond`](crate::Error::NoInsertedSecond) where there is none.
+    /// Refuses the first field that is out of range, with [`NoSuchMonth`](crate::Error::NoSuchMonth),
+    /// [`NoSuchDay`](crate::Error::NoSuchDay), [`NoSuchHour`](crate::Error::NoSuchHour),
+    /// [`NoSuchMinute`](crate::Error::NoSuchMinute), [`NoSuchSecond`](crate::Error::NoSuchSecond) above 60, or
+    /// [`InvalidNanos`](crate::Error::InvalidNanos). Then refuses with
+    /// [`NoInsertedSecond`](crate::Error::NoInsertedSecond) where the second is 60 and no count is read so, then with
+    /// [`Overflow`](crate::Error::Overflow) before 1980-01-06 and past the range of counts. The [`CivilError`] holds the
+    /// fields, and its words name the one that is wrong.
     ///
-    /// With any other second no field is checked: it is the GPS count of the UTC count that
-    /// [`to_utc`](CivilDateTime::to_utc) gives, the later where there are two. Refuses as `to_utc`, then with
-    /// [`Overflow`](crate::Error::Overflow) before 1980-01-06.
+    /// [`to_utc`](CivilDateTime::to_utc) checks no field.
     ///
     /// ```
     /// use plaitgate::{CivilDateTime, Error, Gps};
@@ -88,19 +92,26 @@ impl CivilDateTime {
     /// let first = CivilDateTime { year: 2017, month: 1, day: 1, hour: 0, minute: 0, second: 0, nanos: 0 };
     /// assert_eq!(last.to_gps()?, Gps::from_nanos(1_167_264_017_000_000_000));
     /// assert_eq!(first.to_gps()?, Gps::from_nanos(1_167_264_018_000_000_000));
-    /// assert_eq!(CivilDateTime { day: 30, ..last }.to_gps(), Err(Error::NoInsertedSecond));
+    ///
+    /// // a second 60 that was not inserted, and a day that is not there
+    /// let refused = CivilDateTime { day: 30, ..last }.to_gps().unwrap_err();
+    /// assert_eq!(refused.error(), Error::NoInsertedSecond);
+    /// assert_eq!(refused.to_string(), "no second 60 at 2016-12-30T23:59");
+    /// let refused = CivilDateTime { year: 2023, month: 2, day: 31, ..first }.to_gps().unwrap_err();
+    /// assert_eq!(refused.error(), Error::NoSuchDay);
+    /// assert_eq!(refused.to_string(), "day 31 of 2023-02, which has 28");
     ///
     /// // by way of the UTC count both are the first of the two
     /// assert_eq!(last.to_utc()?.to_gps()?, last.to_gps()?);
     /// assert_eq!(first.to_utc()?.to_gps()?, last.to_gps()?);
     /// # Ok::<(), plaitgate::Error>(())
     /// ```
-    pub fn to_gps(self) -> Result<Gps> {
+    pub fn to_gps(self) -> Result<Gps, CivilError> {
         self.to_gps_with(LeapSeconds::builtin())
     }
 
     /// The GPS count by a table. Refuses with [`NotOnDays`](crate::Error::NotOnDays) where the table cannot be read by
-    /// ([`Gps::to_civil_with`] says when), then as [`to_gps`](CivilDateTime::to_gps).
+    /// ([`Gps::to_civil_with`] says when), then as [`to_gps`](CivilDateTime::to_gps): the table is checked first.
     ///
     /// ```
     /// use plaitgate::{CivilDateTime, Error, Gps, LeapEntry, LeapTable};
@@ -109,13 +120,15 @@ impl CivilDateTime {
     /// let table = LeapTable::from_entries(&[LeapEntry::new(0, 19), LeapEntry::new(46_828_820_000_000_000, 20)])?;
     /// let first = CivilDateTime { year: 1981, month: 6, day: 30, hour: 23, minute: 59, second: 60, nanos: 0 };
     /// assert_eq!(first.to_gps_with(&table)?, Gps::from_nanos(46_828_800_000_000_000));
-    /// assert_eq!(CivilDateTime { year: 1982, ..first }.to_gps_with(&table), Err(Error::NoInsertedSecond));
+    /// let refused = CivilDateTime { year: 1982, ..first }.to_gps_with(&table).unwrap_err();
+    /// assert_eq!(refused.error(), Error::NoInsertedSecond);
     ///
-    /// // a table that begins otherwise than (0, 19)
-    /// assert_eq!(first.to_gps_with(&LeapTable::new()), Err(Error::NotOnDays));
+    /// // a table that begins otherwise than (0, 19) is refused before a month 13
+    /// let refused = CivilDateTime { month: 13, ..first }.to_gps_with(&LeapTable::new()).unwrap_err();
+    /// assert_eq!(refused.error(), Error::NotOnDays);
     /// # Ok::<(), plaitgate::Error>(())
     /// ```
-    pub fn to_gps_with<P: LeapSecondsProvider>(self, table: &P) -> Result<Gps> {
+    pub fn to_gps_with<P: LeapSecondsProvider>(self, table: &P) -> Result<Gps, CivilError> {
         self.to_gps_dated(table).map(Dated::into_value)
     }
 
@@ -132,8 +145,9 @@ impl CivilDateTime {
     /// assert_eq!((count.value, count.stale), (gps, true));
     /// # Ok::<(), plaitgate::Error>(())
     /// ```
-    pub fn to_gps_dated<P: LeapSecondsProvider>(self, table: &P) -> Result<Dated<Gps>> {
-        table.civil_to_gps(self).map(|answer| answer.map(Gps))
+    pub fn to_gps_dated<P: LeapSecondsProvider>(self, table: &P) -> Result<Dated<Gps>, CivilError> {
+        let count = table.civil_to_gps(self).map_err(|error| CivilError::new(error, self))?;
+        Ok(count.map(Gps))
     }
 }
 

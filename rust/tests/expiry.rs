@@ -1,6 +1,7 @@
 //! Tables that go stale: from the expiry on the calls say so, and the counts stay as they are.
 
 use plaitgate::*;
+use std::fmt::Debug;
 
 /// An expiry between the last leap second and the end of counts, as a TAI count.
 const EXPIRY: u64 = 1_466_640_037_000_000_000;
@@ -17,7 +18,7 @@ fn stale<T>(answer: Result<Dated<T>>) -> Option<bool> {
 
 /// Every call by a table on one number: whether it is stale, and what it answers with and without telling.
 fn all<P: LeapSecondsProvider>(number: u64, table: &P) -> Vec<(Option<bool>, String, String)> {
-    fn said<T: std::fmt::Debug>(dated: Result<Dated<T>>, plain: Result<T>) -> (Option<bool>, String, String) {
+    fn said<T: Debug, E: Debug>(dated: Result<Dated<T>, E>, plain: Result<T, E>) -> (Option<bool>, String, String) {
         let stale = dated.as_ref().ok().map(|answer| answer.stale);
         (stale, format!("{:?}", dated.map(Dated::into_value)), format!("{plain:?}"))
     }
@@ -25,7 +26,7 @@ fn all<P: LeapSecondsProvider>(number: u64, table: &P) -> Vec<(Option<bool>, Str
     let (glonass, galileo) = (Glonass::from_nanos(number), Galileo::from_nanos(number));
     let (beidou, unix) = (Beidou::from_nanos(number), (number / SECOND) as i64);
     vec![
-        said(Ok(table.tai_minus_utc_at_dated(tai)), Ok(table.tai_minus_utc_at(tai))),
+        said::<_, Error>(Ok(table.tai_minus_utc_at_dated(tai)), Ok(table.tai_minus_utc_at(tai))),
         said(gps_to_utc_dated(gps, table), gps_to_utc(gps, table)),
         said(utc_to_gps_dated(utc, table), utc_to_gps(utc, table)),
         said(gps_to_glonass_dated(gps, table), gps_to_glonass(gps, table)),
