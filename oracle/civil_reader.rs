@@ -1,5 +1,5 @@
 //! Civil readings in which an inserted second is 23:59:60, written from the definition alone. The days of a table are
-//! walked one by one, and so is the calendar.
+//! walked one by one, and so is the calendar. Fields are read back if they are the reading of a count, and only then.
 
 use crate::dated_rules::is_regular;
 use crate::number::Number;
@@ -10,10 +10,16 @@ use std::sync::OnceLock;
 pub type Fields = [i128; 7];
 
 pub const OVERFLOW: u32 = 1;
+pub const INVALID_NANOS: u32 = 11;
 /// The table is not regular or not on days.
 pub const NOT_ON_DAYS: u32 = 13;
 /// No inserted second is read so.
-pub const NO_SUCH_SECOND: u32 = 14;
+pub const NO_INSERTED_SECOND: u32 = 14;
+pub const NO_SUCH_MONTH: u32 = 15;
+pub const NO_SUCH_DAY: u32 = 16;
+pub const NO_SUCH_HOUR: u32 = 17;
+pub const NO_SUCH_MINUTE: u32 = 18;
+pub const NO_SUCH_SECOND: u32 = 19;
 
 const SECOND: i128 = 1_000_000_000;
 const DAY: i128 = 86_400 * SECOND;
@@ -57,14 +63,18 @@ impl Reader {
         Ok([year, month, day_of_month, hour, minute, second, nanos])
     }
 
-    /// The GPS count that fields are read back to.
+    /// The GPS count that fields are read back to. The first field that is out of range refuses them.
     pub fn read_back(&self, fields: Fields) -> Result<i128, u32> {
-        let second = fields[5];
-        if second == 60 {
-            return self.inserted(fields).ok_or(NO_SUCH_SECOND);
+        if let Some(refusal) = out_of_range(fields) {
+            return Err(refusal);
         }
-        let utc = lenient_utc(fields)?;
-        self.counts_of(utc).into_iter().max().ok_or(OVERFLOW)
+        let second = fields[5];
+        self.count_read_as(fields).ok_or(if second == 60 { NO_INSERTED_SECOND } else { OVERFLOW })
+    }
+
+    /// Whether the lenient formula has a UTC count for these fields, and that a GPS count.
+    pub fn reads_leniently(&self, fields: Fields) -> bool {
+        lenient_utc(fields).is_some_and(|utc| !self.counts_of(utc).is_empty())
     }
 
     /// Whether another GPS count before this one has the same UTC count.
@@ -87,11 +97,12 @@ impl Reader {
         candidates.filter(|gps| self.utc(*gps) == Ok(utc)).collect()
     }
 
-    /// The GPS count that is read as these fields, whose second is 60: it is a day after the day with this date began.
-    fn inserted(&self, fields: Fields) -> Option<i128> {
-        let [year, month, day, _, _, _, nanos] = fields;
+    /// The GPS count that is read as these fields: it is their time of day after the day with their date began.
+    fn count_read_as(&self, fields: Fields) -> Option<i128> {
+        let [year, month, day, hour, minute, second, nanos] = fields;
         let day = calendar().binary_search(&[year, month, day]).ok()?;
-        let gps = self.begins[day] + DAY + nanos - TAI_MINUS_GPS;
+        let since = (3_600 * hour + 60 * minute + second) * SECOND + nanos;
+        let gps = self.begins[day] + since - TAI_MINUS_GPS;
         ((0..=GREATEST).contains(&gps) && self.reading(gps) == Ok(fields)).then_some(gps)
     }
 
@@ -140,6 +151,44 @@ fn time_of_day(since: i128) -> [i128; 4] {
     [seconds / 3_600, seconds / 60 % 60, seconds % 60, since % SECOND]
 }
 
+/// The refusal of the first field that is out of range.
+pub fn out_of_range([year, month, day, hour, minute, second, nanos]: Fields) -> Option<u32> {
+    let in_range = [
+        ((1..=12).contains(&month), NO_SUCH_MONTH),
+        (is_date([year, month, day]), NO_SUCH_DAY),
+        (hour < 24, NO_SUCH_HOUR),
+        (minute < 60, NO_SUCH_MINUTE),
+        (second <= 60, NO_SUCH_SECOND),
+        (nanos < SECOND, INVALID_NANOS),
+    ];
+    in_range.into_iter().find(|(holds, _)| !holds).map(|(_, refusal)| refusal)
+}
+
+/// Fields refused by this number, with the field that it is about brought into its range.
+pub fn mended(mut fields: Fields, refusal: u32) -> Fields {
+    match refusal {
+        NO_SUCH_MONTH => fields[1] = fields[1].clamp(1, 12),
+        NO_SUCH_DAY => fields[2] = fields[2].clamp(1, 28),
+        NO_SUCH_HOUR => fields[3] = 23,
+        NO_SUCH_MINUTE => fields[4] = 59,
+        NO_SUCH_SECOND | NO_INSERTED_SECOND => fields[5] = 59,
+        INVALID_NANOS => fields[6] = SECOND - 1,
+        _ => unreachable!("{refusal} is about no field"),
+    }
+    fields
+}
+
+/// Whether there is such a date: one of the calendar's, or, before the first and after the last of them, one that its
+/// month is long enough for.
+fn is_date(date: [i128; 3]) -> bool {
+    let dates = calendar();
+    if (dates[0]..=dates[DAYS - 1]).contains(&date) {
+        return dates.binary_search(&date).is_ok();
+    }
+    let [year, month, day] = date;
+    (1..=month_length(year, month)).contains(&day)
+}
+
 /// The dates from the first on, one after the other.
 pub fn calendar() -> &'static [[i128; 3]] {
     static DATES: OnceLock<Vec<[i128; 3]>> = OnceLock::new();
@@ -166,8 +215,8 @@ fn month_length(year: i128, month: i128) -> i128 {
     }
 }
 
-/// The UTC count of any fields: here the crate is the definition.
-fn lenient_utc([year, month, day, hour, minute, second, nanos]: Fields) -> Result<i128, u32> {
+/// The UTC count of any fields by the lenient formula, which is the crate's.
+fn lenient_utc([year, month, day, hour, minute, second, nanos]: Fields) -> Option<i128> {
     let time = CivilDateTime {
         year: i32::narrow(year),
         month: u8::narrow(month),
@@ -177,5 +226,5 @@ fn lenient_utc([year, month, day, hour, minute, second, nanos]: Fields) -> Resul
         second: u8::narrow(second),
         nanos: u32::narrow(nanos),
     };
-    time.to_utc_nanos().map(i128::from).map_err(|_| OVERFLOW)
+    time.to_utc_nanos().map(i128::from).ok()
 }

@@ -1,5 +1,5 @@
 //! A peer that names inserted seconds: the C library with the zone right/UTC, in which time_t counts them. It is
-//! compared with the civil readings by the built-in table, both ways.
+//! compared with the civil readings by the built-in table, both ways, and says which fields are no date or time.
 
 use crate::call::Written;
 use crate::chance::Chance;
@@ -57,6 +57,7 @@ pub fn compare(seed: u64, count: u64) -> Result<Vec<String>, String> {
     let mut tally = Tally::default();
     for gps_seconds in instants_in_order().into_iter().chain(random) {
         tally.compare_once(gps_seconds, [0, chance.within(0, SECOND - 1), SECOND - 1]);
+        tally.compare_changed(draw_changed(&mut chance, peer_reading(gps_seconds)));
     }
     tally.verdict()
 }
@@ -80,10 +81,24 @@ fn instants_in_order() -> Vec<i64> {
     around_inserted.chain(around_midnights).filter(|second| *second >= 0).collect()
 }
 
+/// The fields with one or two of them drawn anew, up to a little past their ranges.
+fn draw_changed(chance: &mut Chance, mut fields: Fields) -> Fields {
+    const PAST_THE_RANGE: [(usize, i128); 5] = [(1, 13), (2, 32), (3, 24), (4, 60), (5, 61)];
+    for _ in 0..=chance.below(2) {
+        let (place, past) = PAST_THE_RANGE[chance.below(5) as usize];
+        let any = chance.within(0, past);
+        fields[place] = chance.one_of(&[any, past - 1, past]);
+    }
+    fields
+}
+
 #[derive(Default)]
 struct Tally {
     instants: u64,
     inserted: u64,
+    /// Changed fields that the peer leaves as they are, and those that it takes for others.
+    left: u64,
+    taken_for_others: u64,
     differences: u64,
 }
 
@@ -91,7 +106,7 @@ impl Tally {
     /// One second of GPS by the peer, and by the port at some nanoseconds of it.
     fn compare_once(&mut self, gps_seconds: i64, all_nanos: [i128; 3]) {
         let fields = peer_reading(gps_seconds);
-        let back = peer_read_back(fields);
+        let (back, _) = peer_read_back(fields);
         self.instants += 1;
         self.inserted += u64::from(fields[5] == 60);
         if back != gps_seconds {
@@ -101,6 +116,21 @@ impl Tally {
         for nanos in all_nanos {
             let gps = i128::from(gps_seconds) * SECOND + nanos;
             self.compare_port(gps, [year, month, day, hour, minute, second, nanos]);
+        }
+    }
+
+    /// Fields that may be no date or time: the peer then takes them for others, and the port must refuse them. It must
+    /// refuse those before the first count, too.
+    fn compare_changed(&mut self, fields: Fields) {
+        let (gps_seconds, taken_for) = peer_read_back(fields);
+        if taken_for == fields && gps_seconds >= 0 {
+            self.left += 1;
+            return self.compare_port(i128::from(gps_seconds) * SECOND, fields);
+        }
+        self.taken_for_others += u64::from(taken_for != fields);
+        let back = read_back(fields, None);
+        if back.refusal == 0 || back.results != [0] {
+            self.differ(&format!("{fields:?}: {taken_for:?} by the peer, by the port {}", said(&back)));
         }
     }
 
@@ -123,16 +153,24 @@ impl Tally {
     }
 
     fn verdict(&self) -> Result<Vec<String>, String> {
-        let Tally { instants, inserted, differences } = self;
+        let Tally { instants, inserted, left, taken_for_others, differences } = self;
         if *differences > 0 {
             return Err(format!("{differences} differences from right/UTC at {instants} instants"));
         }
         if *inserted < LeapSeconds::builtin().entries().len() as u64 - 1 {
             return Err(format!("right/UTC has 23:59:60 at {inserted} instants only"));
         }
-        Ok(vec![format!(
-            "{instants} instants as by right/UTC of the C library, both ways; {inserted} of them 23:59:60"
-        )])
+        if *left == 0 || *taken_for_others == 0 {
+            return Err(format!(
+                "right/UTC left {left} changed fields as they are, and took {taken_for_others} for others"
+            ));
+        }
+        Ok(vec![
+            format!("{instants} instants as by right/UTC of the C library, both ways; {inserted} of them 23:59:60"),
+            format!(
+                "{left} changed fields read back as by right/UTC, {taken_for_others} refused that it takes for others"
+            ),
+        ])
     }
 }
 
@@ -150,19 +188,24 @@ fn peer_reading(gps_seconds: i64) -> Fields {
     // SAFETY: both places outlive the call
     let done = unsafe { localtime_r(&(gps_seconds + GPS_EPOCH_SECONDS), &mut local) };
     assert!(!done.is_null(), "localtime_r has no answer for GPS {gps_seconds} s");
-    let Tm { second, minute, hour, day, month_from_0, years_from_1900, .. } = local;
-    let [year, month] = [years_from_1900 + 1900, month_from_0 + 1];
-    let [year, month, day, hour, minute, second] = [year, month, day, hour, minute, second].map(i128::from);
-    [year, month, day, hour, minute, second, 0]
+    fields_of(&local)
 }
 
-/// The GPS second of fields.
-fn peer_read_back(fields: Fields) -> i64 {
+/// The GPS second of fields, and the fields that the peer takes them for.
+fn peer_read_back(fields: Fields) -> (i64, Fields) {
     let [year, month, day, hour, minute, second] = [0, 1, 2, 3, 4, 5].map(|place| fields[place] as c_int);
     let (month_from_0, years_from_1900) = (month - 1, year - 1900);
     let mut local = Tm { second, minute, hour, day, month_from_0, years_from_1900, ..midnight_of_1900() };
     // SAFETY: the place outlives the call
-    unsafe { mktime(&mut local) - GPS_EPOCH_SECONDS }
+    let time = unsafe { mktime(&mut local) };
+    (time - GPS_EPOCH_SECONDS, fields_of(&local))
+}
+
+fn fields_of(local: &Tm) -> Fields {
+    let Tm { second, minute, hour, day, month_from_0, years_from_1900, .. } = *local;
+    let [year, month] = [years_from_1900 + 1900, month_from_0 + 1];
+    let [year, month, day, hour, minute, second] = [year, month, day, hour, minute, second].map(i128::from);
+    [year, month, day, hour, minute, second, 0]
 }
 
 fn midnight_of_1900() -> Tm {

@@ -5,6 +5,7 @@ use crate::civil_reader::{calendar, Fields};
 use crate::images::{self, image, prepared, IMAGE_BYTES};
 use crate::number::{Kind, Number};
 use gnss_time::{LeapEntry, LeapSeconds, RUNTIME_CAPACITY};
+use std::sync::OnceLock;
 
 const SECOND: i128 = 1_000_000_000;
 const DAY_SECONDS: i128 = 86_400;
@@ -81,9 +82,12 @@ pub fn draw_count(chance: &mut Chance, entries: &[LeapEntry]) -> i128 {
     gps.clamp(0, GREATEST)
 }
 
+const LEAST_YEAR: i128 = i32::MIN as i128;
+const GREATEST_YEAR: i128 = i32::MAX as i128;
+
 /// The numbers at which a field is tried, next to its neighbours.
 const EDGES: [&[i128]; 7] = [
-    &[i32::MIN as i128, -1, 0, 1971, 1972, 1979, 1980, 1981, 2016, 2017, 2556, 2557, 2564, 2565, i32::MAX as i128],
+    &[LEAST_YEAR, -1, 0, 1971, 1972, 1979, 1980, 1981, 2016, 2017, 2556, 2557, 2564, 2565, GREATEST_YEAR],
     &[0, 1, 2, 3, 6, 7, 12, 13, 255],
     &[0, 1, 28, 29, 30, 31, 32, 255],
     &[0, 22, 23, 24, 255],
@@ -104,6 +108,56 @@ pub fn changes(fields: Fields) -> Vec<Fields> {
         }
     }
     changes
+}
+
+/// What refuses fields, each with the place of its field: years without a count, fields out of range, and second 60,
+/// which few minutes have. A day of 30 or 31 is out of range in some months only.
+const WRONG: [(usize, &[i128]); 8] = [
+    (0, &[LEAST_YEAR, 1900, 1979, 2565, GREATEST_YEAR]),
+    (1, &[0, 13, 255]),
+    (2, &[0, 30, 31, 32, 255]),
+    (3, &[24, 255]),
+    (4, &[60, 255]),
+    (5, &[61, 255]),
+    (5, &[60]),
+    (6, &[1_000_000_000, u32::MAX as i128]),
+];
+
+/// Two fields that are wrong at once: their places, and what stands there.
+pub type WrongPair = [(usize, i128); 2];
+
+/// Every two wrong fields.
+pub fn wrong_pairs() -> &'static [WrongPair] {
+    static PAIRS: OnceLock<Vec<WrongPair>> = OnceLock::new();
+    PAIRS.get_or_init(|| {
+        let wrong = || WRONG.into_iter().flat_map(|(place, values)| values.iter().map(move |value| (place, *value)));
+        let pairs = wrong().flat_map(|first| wrong().map(move |later| [first, later]));
+        pairs.filter(|[first, later]| first.0 < later.0).collect()
+    })
+}
+
+/// The same fields with two of them wrong.
+pub fn with_wrong(mut fields: Fields, pair: WrongPair) -> Fields {
+    for (place, value) in pair {
+        fields[place] = value;
+    }
+    fields
+}
+
+/// Years of every kind: common and leap, hundreds of both, before the year 0 and at the ends of the type.
+fn years() -> Vec<i128> {
+    let first = [LEAST_YEAR, LEAST_YEAR + 1, -2_147_483_600, -2_147_483_500, -400, -100, -4, -1];
+    let middle = [0, 1, 4, 1900, 1972, 1979, 1980, 2000, 2023, 2024, 2100, 2400, 2500, 2556, 2564];
+    let last = [2_147_483_500, 2_147_483_600, GREATEST_YEAR - 3, GREATEST_YEAR];
+    first.into_iter().chain(middle).chain(last).collect()
+}
+
+/// The days around the ends of the months in years of every kind, 29 February among them.
+pub fn ends_of_months() -> &'static [Fields] {
+    static DATES: OnceLock<Vec<Fields>> = OnceLock::new();
+    let days = |year: i128| (1..=12).flat_map(move |month| [0, 1, 28, 29, 30, 31, 32].map(|day| [year, month, day]));
+    let at_a_time = |[year, month, day]: [i128; 3]| [year, month, day, 12, 34, 56, 0];
+    DATES.get_or_init(|| years().into_iter().flat_map(days).map(at_a_time).collect())
 }
 
 /// Fields at the ends of the ranges and at inserted seconds that only some tables have, or none.
@@ -140,13 +194,16 @@ pub fn inserted_fields(entries: &[LeapEntry]) -> Vec<Fields> {
     entries.iter().skip(1).filter_map(inserted).collect()
 }
 
-/// Random fields: those of a reading or of an inserted second, of which up to two are changed, or any.
+/// Random fields: those of a reading or of an inserted second, or any; two of them wrong, or up to two changed.
 pub fn draw_fields(chance: &mut Chance, entries: &[LeapEntry], reading: Option<Fields>) -> Fields {
     let any_inserted = (!entries.is_empty()).then(|| &entries[chance.below(entries.len() as u64) as usize]);
     let mut fields = match (chance.below(8), reading, any_inserted.and_then(inserted)) {
         (0, _, Some(fields)) | (2.., Some(fields), _) => fields,
         _ => draw_any_fields(chance),
     };
+    if chance.below(8) == 0 {
+        return with_wrong(fields, wrong_pairs()[chance.below(wrong_pairs().len() as u64) as usize]);
+    }
     for _ in 0..chance.below(3) {
         let place = chance.below(7) as usize;
         let value = match chance.below(3) {
@@ -159,14 +216,30 @@ pub fn draw_fields(chance: &mut Chance, entries: &[LeapEntry], reading: Option<F
     fields
 }
 
-/// A day of the calendar, in every other draw in its last second or the one after it, or fields of any length.
+/// Of each eight: four times a day of the calendar in its last second or the one after it, one at any time of day; one
+/// near the end of a month in any year, and one in a February; one with fields of any length.
 fn draw_any_fields(chance: &mut Chance) -> Fields {
     let [year, month, day] = calendar()[chance.below(calendar().len() as u64) as usize];
+    let [hour, minute, second] = [23, 59, 60].map(|greatest| chance.within(0, greatest));
     let nanos = chance.within(0, SECOND - 1);
-    match chance.below(4) {
+    match chance.below(8) {
         0 => KINDS.map(|kind| chance.within(kind.least, kind.greatest)),
-        1 => [year, month, day, chance.within(0, 23), chance.within(0, 59), chance.within(0, 60), nanos],
+        1 => [year, month, day, hour, minute, second, nanos],
+        2 => [draw_year(chance), chance.within(1, 12), chance.within(28, 32), hour, minute, second, nanos],
+        3 => [draw_year(chance), 2, chance.within(28, 30), hour, minute, second, nanos],
         _ => [year, month, day, 23, 59, chance.within(59, 60), nanos],
+    }
+}
+
+/// A year of the calendar or any, in every other draw a hundred.
+fn draw_year(chance: &mut Chance) -> i128 {
+    let year = match chance.below(2) {
+        0 => chance.within(1980, 2564),
+        _ => chance.within(LEAST_YEAR, GREATEST_YEAR),
+    };
+    match chance.below(2) {
+        0 => year,
+        _ => year / 100 * 100,
     }
 }
 

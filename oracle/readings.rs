@@ -3,7 +3,9 @@
 
 use crate::call::{prototype_of, Named, Outcome, Written};
 use crate::chance::Chance;
-use crate::civil_reader::{Fields, Reader, NOT_ON_DAYS, NO_SUCH_SECOND, OVERFLOW};
+use crate::civil_reader::{mended, out_of_range, Fields, Reader};
+use crate::civil_reader::{INVALID_NANOS, NOT_ON_DAYS, NO_INSERTED_SECOND, OVERFLOW};
+use crate::civil_reader::{NO_SUCH_DAY, NO_SUCH_HOUR, NO_SUCH_MINUTE, NO_SUCH_MONTH, NO_SUCH_SECOND};
 use crate::dated_rules::is_regular;
 use crate::images::{table_in, with_expiry, words, NO_EXPIRY};
 use crate::number::{Number, Place};
@@ -67,23 +69,45 @@ const BUILTIN_BACK: usize = 1;
 const TABLE_READING: usize = 2;
 const TABLE_BACK: usize = 3;
 
-/// Each call's name, and the numbers that have to come.
+/// Each call's name, and the numbers that have to come in addition to those for fields out of range.
 const CALLS: [(&str, &[u32]); 4] = [
     ("builtin_gps_to_civil", &[0, OVERFLOW]),
-    ("builtin_civil_to_gps", &[0, OVERFLOW, NO_SUCH_SECOND]),
+    ("builtin_civil_to_gps", &[0, OVERFLOW, NO_INSERTED_SECOND]),
     ("table_gps_to_civil", &[0, OVERFLOW, BAD_TABLE, NOT_ON_DAYS]),
-    ("table_civil_to_gps", &[0, OVERFLOW, BAD_TABLE, NOT_ON_DAYS, NO_SUCH_SECOND]),
+    ("table_civil_to_gps", &[0, OVERFLOW, BAD_TABLE, NOT_ON_DAYS, NO_INSERTED_SECOND]),
 ];
+
+/// The refusals for fields out of range, in the order in which they are due.
+const OUT_OF_RANGE: [u32; 6] =
+    [NO_SUCH_MONTH, NO_SUCH_DAY, NO_SUCH_HOUR, NO_SUCH_MINUTE, NO_SUCH_SECOND, INVALID_NANOS];
+
+/// Every two refusals of a call that the same fields can have earned, the one that is due first.
+fn pairs_in_order(call: usize) -> Vec<(u32, u32)> {
+    let of_fields = [&OUT_OF_RANGE[..], &[NO_INSERTED_SECOND, OVERFLOW]].concat();
+    let mut pairs = Vec::new();
+    for (place, first) in of_fields.iter().enumerate() {
+        pairs.extend(of_fields[place + 1..].iter().map(|later| (*first, *later)));
+    }
+    // a second above 60 is not 60
+    pairs.retain(|pair| *pair != (NO_SUCH_SECOND, NO_INSERTED_SECOND));
+    let of_tables: &[u32] = if call == TABLE_BACK { &[BAD_TABLE, NOT_ON_DAYS] } else { &[] };
+    pairs.extend(of_tables.iter().flat_map(|first| OUT_OF_RANGE.map(|later| (*first, later))));
+    pairs
+}
 
 const NAMES: [&str; 7] = ["year", "month", "day", "hour", "minute", "second", "nanos"];
 const GPS: Named = ("gps", u64::KIND);
 const STALE: Named = ("stale", u8::KIND);
 const TAI_MINUS_GPS: i128 = 19_000_000_000;
 const DIFFERENCES_SHOWN: u64 = 5;
-/// How many changes of one reading's fields are tried by each table in order; by the built-in one all are.
-const CHANGES_FOR_EACH: usize = 6;
+/// How many changes of one reading's fields, and how many pairs of wrong ones, are tried by each table in order; by the
+/// built-in one all are.
+const CHANGES_FOR_EACH: [usize; 2] = [6, 2];
+const ALL_CHANGES: [usize; 2] = [usize::MAX; 2];
 /// By a table that is refused each 32nd count is tried.
 const REFUSED_STEP: usize = 32;
+/// By a table in an image each 32nd of the days around the ends of months is tried, by the built-in one all are.
+const DATES_STEP: usize = 32;
 /// How many random questions of either kind are asked by one random table.
 const QUESTIONS_FOR_EACH: u64 = 50;
 
@@ -112,7 +136,7 @@ pub fn prototypes() -> Vec<String> {
 pub fn compare(seed: u64, count: u64) -> Result<Vec<String>, String> {
     let mut tally = Tally::default();
     let builtin = By::builtin();
-    tally.in_order(&builtin, usize::MAX);
+    tally.in_order(&builtin, ALL_CHANGES);
     for bytes in tried::images() {
         tally.in_order(&By::image(&bytes), CHANGES_FOR_EACH);
     }
@@ -313,6 +337,19 @@ fn expiry_near(tai: Option<i128>, turn: usize) -> u64 {
     u64::narrow(expiries[turn % expiries.len()])
 }
 
+/// The refusal that comes once the table or the field that a refusal is about is mended.
+fn next_refusal(by: &By, fields: Fields, refusal: u32) -> Option<u32> {
+    match by.reader() {
+        Err(_) => out_of_range(fields),
+        Ok(_) if refusal == OVERFLOW => None,
+        Ok(reader) => reader.read_back(mended(fields, refusal)).err(),
+    }
+}
+
+fn is_29_february([_, month, day, ..]: Fields) -> bool {
+    [month, day] == [2, 29]
+}
+
 /// What has to be met in addition to the numbers.
 enum Met {
     ReadAs60,
@@ -320,16 +357,24 @@ enum Met {
     Later,
     PastTheRange,
     OffDays,
+    OnlyLenient,
+    LeapHundred,
+    CommonHundred,
+    FarLeapDay,
     Stale,
     Fresh,
 }
 
-const MET: [&str; 7] = [
+const MET: [&str; 11] = [
     "were read as 23:59:60",
     "read back from it",
     "read back to the later of two counts",
     "refused as inserted past the range",
     "refused by a regular table off days",
+    "refused as out of range where the lenient formula has a count",
+    "read back from 29 February of a hundred",
+    "refused as 29 February of a hundred that has none",
+    "refused as 29 February of a year that no count reaches",
     "stale",
     "not stale with an expiry",
 ];
@@ -339,14 +384,16 @@ struct Tally {
     differences: u64,
     /// How often each number came, by call.
     answers: [BTreeMap<u32, u64>; 4],
+    /// How often each refusal came where another would have come next, by call.
+    pairs: [BTreeMap<(u32, u32), u64>; 4],
     met: [u64; MET.len()],
     /// The number of questions so far, by which expiries and changes take turns.
     turn: usize,
 }
 
 impl Tally {
-    /// All counts of a table and their fields, with up to `changes` changes of each.
-    fn in_order(&mut self, by: &By, changes: usize) {
+    /// All counts of a table and their fields, with up to so many changes of each and pairs of wrong fields, and dates.
+    fn in_order(&mut self, by: &By, changes: [usize; 2]) {
         let step = if by.reader.is_ok() { 1 } else { REFUSED_STEP };
         for gps in tried::counts(&by.entries).into_iter().step_by(step) {
             if let Some(fields) = self.ask_reading(by, gps) {
@@ -356,13 +403,20 @@ impl Tally {
         for fields in [tried::notable_fields(), tried::inserted_fields(&by.entries)].concat() {
             self.ask_back_with_changes(by, fields, changes);
         }
+        let step = if by.image.is_none() { 1 } else { DATES_STEP };
+        for fields in tried::ends_of_months().iter().skip(self.turn % step).step_by(step) {
+            self.ask(by, Back(*fields));
+        }
     }
 
-    fn ask_back_with_changes(&mut self, by: &By, fields: Fields, most: usize) {
+    fn ask_back_with_changes(&mut self, by: &By, fields: Fields, [most, most_pairs]: [usize; 2]) {
         self.ask(by, Back(fields));
-        let changes = tried::changes(fields);
+        let (changes, pairs) = (tried::changes(fields), tried::wrong_pairs());
         for _ in 0..most.min(changes.len()) {
             self.ask(by, Back(changes[self.turn % changes.len()]));
+        }
+        for _ in 0..most_pairs.min(pairs.len()) {
+            self.ask(by, Back(tried::with_wrong(fields, pairs[self.turn % pairs.len()])));
         }
     }
 
@@ -406,14 +460,34 @@ impl Tally {
     /// Notes what a question meets.
     fn note(&mut self, by: &By, question: Question, due: &Outcome) {
         self.meet(Met::OffDays, *due == Err(NOT_ON_DAYS) && is_regular(&by.entries));
-        let Ok(reader) = by.reader() else { return };
         match (question, due) {
             (Reading(_), Ok(fields)) => self.meet(Met::ReadAs60, fields[5] == 60),
-            (Back(fields), Ok(_)) if fields[5] == 60 => self.meet(Met::BackFrom60, true),
-            (Back(_), Ok(counts)) => self.meet(Met::Later, reader.has_an_earlier(counts[0])),
-            (Back(fields), Err(NO_SUCH_SECOND)) => self.meet(Met::PastTheRange, reader.inserts_past_the_range(fields)),
+            (Back(fields), Ok(counts)) => self.note_read_back(by, fields, counts[0]),
+            (Back(fields), Err(refusal)) => self.note_refused(by, fields, *refusal),
             _ => (),
         }
+    }
+
+    fn note_read_back(&mut self, by: &By, fields: Fields, gps: i128) {
+        let inserted = fields[5] == 60;
+        self.meet(Met::BackFrom60, inserted);
+        self.meet(Met::Later, !inserted && by.reader().is_ok_and(|reader| reader.has_an_earlier(gps)));
+        self.meet(Met::LeapHundred, is_29_february(fields) && fields[0] % 100 == 0);
+    }
+
+    fn note_refused(&mut self, by: &By, fields: Fields, refusal: u32) {
+        if let Some(next) = next_refusal(by, fields, refusal) {
+            let call = Back(fields).call(by.image.is_some());
+            *self.pairs[call].entry((refusal, next)).or_default() += 1;
+        }
+        let Ok(reader) = by.reader() else { return };
+        match refusal {
+            NO_INSERTED_SECOND => self.meet(Met::PastTheRange, reader.inserts_past_the_range(fields)),
+            OVERFLOW => self.meet(Met::FarLeapDay, is_29_february(fields)),
+            _ => self.meet(Met::OnlyLenient, reader.reads_leniently(fields)),
+        }
+        let hundred = is_29_february(fields) && fields[0] % 100 == 0;
+        self.meet(Met::CommonHundred, refusal == NO_SUCH_DAY && hundred);
     }
 
     fn meet(&mut self, which: Met, met: bool) {
@@ -446,12 +520,11 @@ impl Tally {
             return Err(format!("{} differences in {comparisons} civil readings", self.differences));
         }
         let mut sentences = Vec::new();
-        for ((name, numbers), answers) in CALLS.iter().zip(&self.answers) {
-            let each: Vec<String> = answers.iter().map(|(number, times)| format!("{number}: {times}")).collect();
-            sentences.push(format!("{name}: answers by number: {}", each.join(", ")));
-            if let Some(number) = numbers.iter().find(|number| !answers.contains_key(number)) {
-                return Err(format!("{name} did not give {number}"));
-            }
+        for call in 0..CALLS.len() {
+            sentences.push(self.numbers_of(call)?);
+        }
+        for call in [BUILTIN_BACK, TABLE_BACK] {
+            sentences.push(self.order_of(call)?);
         }
         let each: Vec<String> = MET.iter().zip(self.met).map(|(what, times)| format!("{times} {what}")).collect();
         if self.met.contains(&0) {
@@ -459,6 +532,31 @@ impl Tally {
         }
         sentences.push(format!("{comparisons} civil readings, no difference: {}", each.join(", ")));
         Ok(sentences)
+    }
+
+    /// How often each number of a call came, or which did not.
+    fn numbers_of(&self, call: usize) -> Result<String, String> {
+        let ((name, numbers), answers) = (CALLS[call], &self.answers[call]);
+        let of_fields: &[u32] = if [BUILTIN_BACK, TABLE_BACK].contains(&call) { &OUT_OF_RANGE } else { &[] };
+        if let Some(number) = numbers.iter().chain(of_fields).find(|number| !answers.contains_key(number)) {
+            return Err(format!("{name} did not give {number}"));
+        }
+        let each: Vec<String> = answers.iter().map(|(number, times)| format!("{number}: {times}")).collect();
+        Ok(format!("{name}: answers by number: {}", each.join(", ")))
+    }
+
+    /// How often the rarest of a call's pairs of refusals came, or which did not.
+    fn order_of(&self, call: usize) -> Result<String, String> {
+        let (name, pairs) = (CALLS[call].0, pairs_in_order(call));
+        let came = |pair: &(u32, u32)| self.pairs[call].get(pair).copied().unwrap_or(0);
+        let (first, later) = pairs.iter().copied().min_by_key(came).expect("a call that refuses fields");
+        match came(&(first, later)) {
+            0 => Err(format!("{name} did not give {first} where {later} comes next")),
+            times => Ok(format!(
+                "{name}: {} pairs of refusals, each in its order; the rarest, {first} before {later}, {times} times",
+                pairs.len()
+            )),
+        }
     }
 }
 
