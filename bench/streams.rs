@@ -202,22 +202,22 @@ fn measure(programs: &Path, work: &Path) -> io::Result<()> {
     Ok(())
 }
 
-/// Whether a GPS count is in an inserted second, where the crate's civil form is not the reading that the port writes:
-/// the count a second later has the same UTC count.
-fn is_inserted(gps: u64) -> bool {
+/// Whether a GPS count is in an inserted second, where the crate's civil form is not the reading that the port writes, or in
+/// the second after it, which the crate does not give back: the count a second later or earlier has the same UTC count.
+fn is_repeated(gps: u64) -> bool {
     let utc = |gps| Time::<Gps>::from_nanos(gps).to_utc().ok();
-    utc(gps) == utc(gps + SECOND)
+    utc(gps) == utc(gps + SECOND) || gps >= SECOND && utc(gps) == utc(gps - SECOND)
 }
 
-/// Counts from 1980 to 2024 without pattern, by a linear congruence with the multiplier of Knuth's MMIX. One in an
-/// inserted second is moved to the next.
+/// Counts from 1980 to 2024 without pattern, by a linear congruence with the multiplier of Knuth's MMIX. One in a repeated
+/// second is moved two seconds on.
 fn write_counts(path: &Path) -> io::Result<()> {
     let mut out = BufWriter::new(File::create(path)?);
     let mut state = 7u64;
     for _ in 0..LINES {
         state = state.wrapping_mul(6_364_136_223_846_793_005).wrapping_add(1_442_695_040_888_963_407);
         let gps = (state >> 3) % 1_400_000_000_000_000_000;
-        writeln!(out, "{}", if is_inserted(gps) { gps + SECOND } else { gps })?;
+        writeln!(out, "{}", if is_repeated(gps) { gps + 2 * SECOND } else { gps })?;
     }
     out.flush()
 }
