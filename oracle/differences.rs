@@ -131,6 +131,10 @@ fn tables() -> Vec<(&'static str, bool)> {
 fn dates() -> Vec<(&'static str, bool)> {
     let date = CivilDate::new;
     let refused = |text: &str| text.parse::<Time<Utc>>().is_err();
+    let midnight = |year, month, day| {
+        let civil = CivilDateTime { year, month, day, hour: 0, minute: 0, second: 0, nanos: 0 };
+        civil.to_utc().and_then(|utc| utc.to_gps()).map(|gps| gps.as_seconds())
+    };
     vec![
         ("the least year, month 0, panics or wraps", panics(move || date(i32::MIN, 0, 0).days_from_unix())),
         ("nanos_until panics or wraps in 2262", panics(move || date(1970, 1, 1).nanos_until(date(2262, 4, 12)))),
@@ -139,6 +143,10 @@ fn dates() -> Vec<(&'static str, bool)> {
         ("the parser refuses day 0", refused("2023-02-00T00:00:00.000000000Z")),
         ("the parser refuses hour 24", refused("2023-02-28T24:00:00.000000000Z")),
         ("the parser refuses second 60", refused("2016-12-31T23:59:60.000000000Z")),
+        ("the parser takes 31 February", !refused("2023-02-31T00:00:00.000000000Z")),
+        ("31 February 2023 is GPS 1361836818 s by way of UTC", midnight(2023, 2, 31) == Ok(1_361_836_818)),
+        ("so is 3 March", midnight(2023, 3, 3) == Ok(1_361_836_818)),
+        ("2017-01-01 is GPS 1167264017 s by way of UTC", midnight(2017, 1, 1) == Ok(1_167_264_017)),
     ]
 }
 
