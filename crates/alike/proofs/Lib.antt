@@ -1,0 +1,3 @@
+pub mod Parted
+pub mod Tells
+pub mod Calls
