@@ -7,6 +7,8 @@ use lib.IntN.{pos}
 use Rattle.refusals.specs.Outcome.{Outcome, changed}
 use Rattle.tables.specs.Entries.{Entry, entry}
 use Rattle.images.specs.Image.{sized, imageOf, builtFrom}
+use Rattle.alike.specs.declared.Alike.{Alike}
+use Rattle.alike.specs.declared.Alike.the-variants as how
 use Rattle.published.specs.LeapSecondsList.{Reading, listRead}
 
 -- the number that a call gives, and the bytes that it leaves
@@ -64,3 +66,18 @@ foundEntry none = foundAs 0 (entry 0 (pos 0))
 abbrev pub foundCount : Option ℕ → Found ℕ
 foundCount (some n) = foundAs 1 n
 foundCount none = foundAs 0 0
+
+-- how far two tables convert alike, and the counts before which they do, or zeros
+pub record AlikeTold : Type 0 where
+  pub how : ℕ
+  pub gps : ℕ
+  pub utc : ℕ
+
+abbrev pub alikeAs : ℕ → ℕ → ℕ → AlikeTold
+alikeAs k g u = record { how = k; gps = g; utc = u }
+
+abbrev pub inNumbers : Alike → AlikeTold
+inNumbers how.Irregular = alikeAs 0 0 0
+inNumbers how.Everywhere = alikeAs 1 0 0
+inNumbers (how.Before c) = alikeAs 2 (c .gps) (c .utc)
+inNumbers (how.Apart c) = alikeAs 3 (c .gps) (c .utc)

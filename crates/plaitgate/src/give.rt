@@ -1,4 +1,5 @@
 // Writes an answer through the host's pointers, and returns its refusal number, or 0.
+pub mod of_alike;
 pub mod of_readings;
 mod scale_counts;
 

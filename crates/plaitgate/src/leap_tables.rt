@@ -11,8 +11,11 @@ ghost use Rattle.tables.specs.Slots.{tableOf};
 ghost use Rattle.tables.specs.Expiry.{expiryIn};
 ghost use Rattle.images.specs.Image.{tableIn, byImage, datedByImage, imageWritten, imageExtended, imageExpiring};
 ghost use Rattle.builtin.specs.Builtin.{builtin};
+ghost use Rattle.alike.specs.Alike.{alike};
 ghost use Rattle.plaitgate.specs.Tables.{leaves, imageBuilt, bit, datedAs, withStale, foundAs, foundEntry, foundCount};
+ghost use Rattle.plaitgate.specs.Tables.{alikeAs, inNumbers};
 use crate::give;
+use crate::give::of_alike;
 use scales::tai::Tai;
 use tables::LeapTable;
 use tables::Taken;
@@ -144,4 +147,21 @@ pub extern "C" fn plaitgate_table_set_expiry(image: &mut [u8], tai: u64) -> u32
     ensures { λ r. ⌜ leaves r (now (image .exit)) ≡ imageExpiring (now (image .entry)) tai ⌝ }
 {
     give::taken(images::table::set_expiry(image, Tai(tai)))
+}
+
+// How far two tables convert alike: 1 everywhere, 2 before the counts where one extends the other, 3 before them where
+// neither does, 0 where nothing is said.
+#[no_mangle]
+pub extern "C" fn plaitgate_table_alike<'a>(
+    old_image: &'a [u8],
+    new_image: &'a [u8],
+    how: &mut u8,
+    gps: &mut u64,
+    utc: &mut u64,
+) -> u32
+    ensures { λ r. ⌜ Gives (alikeAs 0 0 0)
+        (changed inNumbers (byImage (now («old_image» .entry)) (λ es. byImage (now («new_image» .entry)) (λ fs. alike es fs)))) r
+        (alikeAs (now (how .exit)) (now (gps .exit)) (now (utc .exit))) ⌝ }
+{
+    of_alike::alike(alike::by_image::alike(old_image, new_image), how, gps, utc)
 }

@@ -7,9 +7,10 @@ use Rattle.refusals.specs.Outcome.{answered, changed}
 use Rattle.refusals.proofs.Given.{zeros-on-refusal}
 use Rattle.tables.specs.Entries.{entry, offsetAt, currentOffset, lastUpdate}
 use Rattle.tables.specs.Expiry.{expiryIn}
-use Rattle.plaitgate.specs.Tables.{bit, datedAs, withStale, foundAs, foundEntry, foundCount}
+use Rattle.plaitgate.specs.Tables.{bit, datedAs, withStale, foundAs, foundEntry, foundCount, alikeAs, inNumbers}
 use Rattle.plaitgate.proofs.leap_tables
 use Rattle.images.specs.Image.{tableIn, byImage, datedByImage}
+use Rattle.alike.specs.Alike.{alike}
 use Rattle.demands.specs.RefusalsLeave.{ZerosOnRefusal}
 
 pub len : ZerosOnRefusal leap_tables.plaitgate_table_len.Reads.Post 0 (λ κ e. now (e .1 .0))
@@ -40,3 +41,8 @@ pub expiry : ZerosOnRefusal leap_tables.plaitgate_table_expiry.Reads.Post
     (foundAs 0 0) (λ κ e. foundAs (now (e .1 .0)) (now (e .1 .1 .0)))
 expiry κ a k e =
     zeros-on-refusal (changed foundCount (byImage (now (a .0)) (λ es. answered (expiryIn (tableIn (now (a .0)))))))
+
+pub alike-told : ZerosOnRefusal leap_tables.plaitgate_table_alike.Reads.Post
+    (alikeAs 0 0 0) (λ κ e. alikeAs (now (e .1 .1 .0)) (now (e .1 .1 .1 .0)) (now (e .1 .1 .1 .1 .0)))
+alike-told κ a k e =
+    zeros-on-refusal (changed inNumbers (byImage (now (a .0)) (λ es. byImage (now (a .1 .0)) (λ fs. alike es fs))))

@@ -5,7 +5,7 @@ use mathlib.Core.List.{List}
 use Prim.Native.Nat.{ℕ}
 use denote.Ref.{now}
 use Rattle.refusals.proofs.OneAnswer.{OneAnswerAndEnd, both}
-use Rattle.plaitgate.specs.Tables.{leaves, foundAs, datedAs}
+use Rattle.plaitgate.specs.Tables.{leaves, foundAs, datedAs, alikeAs}
 use Rattle.tables.specs.Entries.{entry}
 use Rattle.plaitgate.proofs.leap_tables.plaitgate_table_len.Reads as table-len-contract
 use Rattle.plaitgate.proofs.leap_tables.plaitgate_table_is_empty.Reads as table-is-empty-contract
@@ -19,6 +19,7 @@ use Rattle.plaitgate.proofs.leap_tables.plaitgate_table_new.Reads as ta
 use Rattle.plaitgate.proofs.leap_tables.plaitgate_table_from_builtin.Reads as table-from-builtin-contract
 use Rattle.plaitgate.proofs.leap_tables.plaitgate_table_from_entries.Reads as table-from-entries-contract
 use Rattle.plaitgate.proofs.leap_tables.plaitgate_table_try_extend.Reads as table-try-extend-contract
+use Rattle.plaitgate.proofs.leap_tables.plaitgate_table_alike.Reads as table-alike-contract
 
 -- one number, and one list of bytes left
 left-one : {k m : ℕ} {b d : List ℕ} {o : ℕ × List ℕ} → leaves k b ≡ o → leaves m d ≡ o → (k ≡ m) × (b ≡ d)
@@ -62,3 +63,7 @@ table-try-extend κ a x y e f p q = left-one p q
 
 pub table-set-expiry : OneAnswerAndEnd table-set-expiry-contract.Post (λ κ e. now (e .0))
 table-set-expiry κ a x y e f p q = left-one p q
+
+pub table-alike : OneAnswerAndEnd table-alike-contract.Post
+    (λ κ e. alikeAs (now (e .1 .1 .0)) (now (e .1 .1 .1 .0)) (now (e .1 .1 .1 .1 .0)))
+table-alike κ a x y e f p q = both p q
