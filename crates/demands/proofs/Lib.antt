@@ -2,6 +2,10 @@ mod WayBack
 mod SameAnswers
 mod AnswerOrRefusal
 mod SameReadings
+mod BelowEntry
+mod SameBefore
+mod OtherScales
+pub mod AddedEntries
 pub mod FixedDifference
 pub mod Shifted
 pub mod Demand1

@@ -7,4 +7,6 @@ pub mod OfReadings
 pub mod RoundTrips
 pub mod RefusalsLeave
 pub mod Stale
+pub mod SameBefore
+pub mod AddedEntries
 pub mod Examples
