@@ -3,20 +3,20 @@
 use mathlib.Core.Path.{_≡_, refl, sym, ap, _∙_, subst}
 use mathlib.Core.Bool.{Bool, true, false, cond}
 use mathlib.Core.List.{List, [], _∷_, _++_, append-assoc, append-nil}
-use Prim.Native.Nat.{ℕ, _+_, _*_, _-_, _≤_, _<_}
+use Prim.Native.Nat.{ℕ, _+_, _*_, _-_, _<_}
 use native.Mathlib.Omega.{arith}
 use borrow.Author.Tests.{eq-eqb, ltb-true}
 use lib.Dec.{eqb, leb, ltb}
 use lib.ListN.{length, drop}
 use lib.IntN.{ℤ, pos, _+ℤ_}
-use Rattle.refusals.specs.Outcome.{Outcome, answered, refused, valueIn}
-use Rattle.tables.specs.Entries.{Entry, threshold, offset, equal, follows, regular, lastOr, joinRefusal, neighbours, lookup, inForce}
+use Rattle.refusals.specs.Outcome.{valueIn}
+use Rattle.tables.specs.Entries.{Entry, threshold, offset, equal, regular, lastOr, joinRefusal, neighbours, lookup, inForce}
 use Rattle.tables.proofs.Integers.{equal-true}
 use Rattle.tables.proofs.Neighbours.{both, zero-follows}
 use Rattle.tables.proofs.Growing.{not-too-long}
 use Rattle.tables.proofs.Reached as list
 use Rattle.counts.specs.Units.{second, daySeconds}
-use Rattle.conversions.specs.Conversions.{E, utcToGps}
+use Rattle.conversions.specs.Conversions.{E}
 use Rattle.demands.specs.SameBefore.{gpsFrom, utcFrom, SameByLists}
 use Rattle.demands.specs.AddedEntries.{after, joined, halfASecondOn, AddedEntries}
 use Rattle.demands.proofs.BelowEntry.{last-offset}

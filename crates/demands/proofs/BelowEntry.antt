@@ -1,16 +1,15 @@
 -- What an entry and those after it leave as it was: every lookup below its threshold. In a regular list it is one more
 -- leap second from there on, for a day.
-use mathlib.Core.Path.{_≡_, refl, sym, ap, _∙_}
+use mathlib.Core.Path.{_≡_, refl, ap, _∙_}
 use mathlib.Core.Bool.{Bool, true, false, cond}
 use mathlib.Core.List.{List, [], _∷_, _++_}
 use Prim.Native.Nat.{ℕ, suc, _+_, _-_, _≤_, _<_}
 use native.Mathlib.Omega.{arith}
 use borrow.Author.Tests.{lt-leb}
 use lib.Dec.{leb}
-use lib.ListN.{length, drop}
-use lib.IntN.{ℤ, pos, _+ℤ_}
+use lib.ListN.{length}
+use lib.IntN.{pos}
 use Rattle.tables.specs.Entries.{Entry, threshold, offset, regular, day, lastOr, telling, inForce, lookup, offsetAt}
-use Rattle.tables.specs.declared.Lookup.{Lookup}
 use Rattle.tables.proofs.Reached.{Chain, reached, none-within-a-day}
 
 -- below the threshold of e, whatever follows

@@ -6,6 +6,9 @@ mod BelowEntry
 mod SameBefore
 mod OtherScales
 pub mod AddedEntries
+mod PartedLists
+mod Forks
+pub mod AlikeLists
 pub mod FixedDifference
 pub mod Shifted
 pub mod Demand1

@@ -1,18 +1,17 @@
 -- An entry after a regular list changes nothing before it: both lookups of a UTC count that is less than one second past
 -- the event are below the threshold. From there on it is a second.
-use mathlib.Core.Path.{_≡_, refl, sym, ap, _∙_, subst}
+use mathlib.Core.Path.{_≡_, refl, ap, _∙_, subst}
 use mathlib.Core.Bool.{Bool, true, false, cond, false≢true}
-use mathlib.Core.List.{List, [], _∷_, _++_}
+use mathlib.Core.List.{List, _∷_, _++_}
 use Prim.Native.Nat.{ℕ, _+_, _*_, _-_, _^_, _≤_, _<_}
 use native.Mathlib.Omega.{arith}
-use native.Mathlib.Decide.{decLe, decLt}
-use borrow.Author.Tests.{ltb-true}
+use native.Mathlib.Decide.{decLt}
+use borrow.Author.Tests.{ltb-true, lt-ltb}
 use lib.Dec.{ltb}
 use lib.ListN.{length, drop}
 use lib.IntN.{ℤ, pos, subℕ, _+ℤ_, _-ℤ_, _*ℤ_}
-use lib.Signed.{ltZ}
-use Rattle.refusals.specs.Outcome.{Outcome, answered, refused, then}
-use Rattle.refusals.proofs.Given.{one-answer, no-refusal}
+use Rattle.refusals.specs.Outcome.{answered, refused, then}
+use Rattle.refusals.proofs.Given.{one-answer}
 use Rattle.counts.specs.Units.{second}
 use Rattle.counts.proofs.Difference.{not-below, by-order, of-naturals, plus}
 use Rattle.scales.specs.Scales.{taiMinusGps}
@@ -22,7 +21,7 @@ use Rattle.tables.proofs.Reached.{Chain, reached}
 use Rattle.conversions.specs.Conversions.{E, countOr, utcAtOffset, gpsToUtc, firstReading, secondReading, lastReading, utcToGps, gpsAtOffset}
 use Rattle.conversions.proofs.SinceEpoch.{since, before}
 use Rattle.conversions.proofs.LeapSeconds.{LeapSeconds, leaps, counted, in-force}
-use Rattle.conversions.proofs.OnNaturals.{tai, Reads, to-utc, from-gps, before-E, from-E, a, b}
+use Rattle.conversions.proofs.OnNaturals.{tai, Reads, to-utc, from-gps, from-E, a, b}
 use Rattle.demands.specs.SameBefore.{Below, gpsFrom, utcFrom, SameByLists, ChangesByLists}
 use Rattle.demands.proofs.BelowEntry.{offset-below, Within, within, one-more}
 
@@ -31,11 +30,14 @@ below-difference : (n a b : ℕ) → Below n (subℕ a b) → n + b < a
 below-difference n a b =
     by-order (λ z. Below n z → n + b < a) a b (λ l h. absurd (false≢true h)) (λ l h. omega (arith, ltb-true n (a - b) h))
 
+pub below-bound : (n a b : ℕ) → n + b < a → Below n (subℕ a b)
+below-bound n a b l = rw (not-below a b (omega arith)) (lt-ltb n (a - b) (omega arith))
+
 pub gps-below : (e : Entry) (g : ℕ) → Below g (gpsFrom e) → tai g < threshold e
 gps-below e g h = below-difference g (threshold e) taiMinusGps (rw (of-naturals (threshold e) taiMinusGps) at h)
 
 -- the UTC bound of an entry with offset n
-utc-from : (e : Entry) (n : ℕ) → offset e ≡ pos n → utcFrom e ≡ subℕ (threshold e + E + second) (n * second)
+pub utc-from : (e : Entry) (n : ℕ) → offset e ≡ pos n → utcFrom e ≡ subℕ (threshold e + E + second) (n * second)
 utc-from e n o =
     ap (λ (z : ℤ). pos (threshold e) -ℤ z *ℤ pos second +ℤ pos E +ℤ pos second) o
     ∙ ap (λ (z : ℤ). z +ℤ pos E +ℤ pos second) (of-naturals (threshold e) (n * second))
@@ -73,7 +75,7 @@ module _ (es : List Entry) (e : Entry) (rest : List Entry) (r : regular es ≡ t
   kept : (t : ℕ) → t < threshold e → offsetAt fs t ≡ offsetAt es t
   kept t l = offset-below es e rest t (omega (arith, few-later es r 0)) l
 
-  gps-same : (g : ℕ) → tai g < threshold e → gpsToUtc fs g ≡ gpsToUtc es g
+  pub gps-same : (g : ℕ) → tai g < threshold e → gpsToUtc fs g ≡ gpsToUtc es g
   gps-same g l = go (ltb (tai g) (2 ^ 64))
     where
       go : (fits : Bool) → let o = cond fits (answered (tai g)) (refused 1) in
@@ -98,7 +100,7 @@ module _ (es : List Entry) (e : Entry) (rest : List Entry) (r : regular es ≡ t
     same-reading : lastReading fs u ≡ lastReading es u
     same-reading = ap (λ (n : ℤ). secondReading u n (firstReading u)) (kept (firstReading u) first-below)
 
-    utc-same : utcToGps fs u ≡ utcToGps es u
+    pub utc-same : utcToGps fs u ≡ utcToGps es u
     utc-same =
         ap (λ (x : ℕ). gpsAtOffset (offsetAt fs x) u) same-reading
         ∙ ap (λ (n : ℤ). gpsAtOffset n u) (kept (lastReading es u) last-below)
@@ -110,7 +112,7 @@ module _ (es : List Entry) (e : Entry) (rest : List Entry) (r : regular es ≡ t
   }
 
 -- ---- from the bounds on, where the list that follows is regular, too
-natural : (n a b : ℕ) → pos n ≡ subℕ a b → n + b ≡ a
+pub natural : (n a b : ℕ) → pos n ≡ subℕ a b → n + b ≡ a
 natural n a b =
     by-order (λ z. pos n ≡ z → n + b ≡ a) a b (λ l h. let c : _≡_ {A = ℕ} 0 1 = cc in absurd (omega arith))
     (λ l h. let is : n ≡ a - b = cc in omega arith)
@@ -168,7 +170,7 @@ module _ (es : List Entry) (e : Entry) (rest : List Entry) (r : regular es ≡ t
   f₂ : LeapSeconds longer k₂
   f₂ = counted longer r′
 
-  gps-changes : (g u : ℕ) → tai g ≡ threshold e → gpsToUtc es g ≡ answered u
+  pub gps-changes : (g u : ℕ) → tai g ≡ threshold e → gpsToUtc es g ≡ answered u
       → (v : ℕ) × (u ≡ v + second) × (gpsToUtc longer g ≡ answered v)
   gps-changes g u at there =
       let x = from-gps es k₁ f₁ g u there in
@@ -180,7 +182,7 @@ module _ (es : List Entry) (e : Entry) (rest : List Entry) (r : regular es ≡ t
       record { tai-fits = x .tai-fits; utc-fits = omega (arith, x .utc-fits); exact = omega arith } in
       (u - second, omega arith, to-utc longer k₂ f₂ g (u - second) y)
 
-  utc-changes : (u g : ℕ) → u + (19 + length es) * second ≡ threshold e + E + second → u < 2 ^ 64
+  pub utc-changes : (u g : ℕ) → u + (19 + length es) * second ≡ threshold e + E + second → u < 2 ^ 64
       → utcToGps es u ≡ answered g → utcToGps longer u ≡ answered (g + second)
   utc-changes u g at fits back =
       let t = threshold e in

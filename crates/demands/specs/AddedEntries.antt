@@ -5,7 +5,7 @@ use mathlib.Core.Bool.{true, cond}
 use mathlib.Core.List.{List, [], _∷_, _++_}
 use Prim.Native.Nat.{ℕ, _+_, _*_, _-_}
 use lib.Dec.{eqb}
-use lib.IntN.{ℤ, pos}
+use lib.IntN.{pos}
 use Rattle.refusals.specs.Outcome.{answered, refused}
 use Rattle.counts.specs.Units.{second, daySeconds}
 use Rattle.scales.specs.Scales.{taiMinusGps, gpsMinusGalileo}

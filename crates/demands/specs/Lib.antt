@@ -9,4 +9,5 @@ pub mod RefusalsLeave
 pub mod Stale
 pub mod SameBefore
 pub mod AddedEntries
+pub mod AlikeLists
 pub mod Examples

@@ -1,10 +1,7 @@
 -- `inner::both_regular`: the old table, and then the new one.
-use mathlib.Core.Path.{_≡_, sym, _∙_}
-use mathlib.Core.Bool.{true}
+use mathlib.Core.Path.{sym, _∙_}
 use borrow.Author.Needs.{needs}
 use borrow.Author.Tests.{not-true, not-false}
-use Rattle.tables.specs.declared.LeapTable.{LeapTable}
-use Rattle.tables.specs.Slots.{validTable}
 use Rattle.tables.proofs.Checked.{Checked, checked}
 use Rattle.alike.proofs.inner.both_regular as call
 

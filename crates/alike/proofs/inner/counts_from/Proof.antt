@@ -9,9 +9,9 @@ use borrow.Author.Needs.{needs}
 use Rattle.refusals.specs.Outcome.{Outcome, then, changed}
 use Rattle.refusals.proofs.Steps.{goes-on, stops}
 use Rattle.counts.specs.Answers.{countIn}
-use Rattle.counts.specs.Exact.{countOf, up, down}
+use Rattle.counts.specs.Exact.{countOf, up}
 use Rattle.counts.specs.Units.{second}
-use Rattle.tables.specs.Entries.{Entry, threshold, offset}
+use Rattle.tables.specs.Entries.{threshold, offset}
 use Rattle.conversions.specs.Conversions.{E, inNanos}
 use Rattle.conversions.proofs.Shifts.{added}
 use Rattle.alike.specs.Alike.{event, counts}

@@ -1,8 +1,7 @@
 -- `inner::told`, case by case.
-use mathlib.Core.Path.{_≡_, sym, ap, _∙_}
+use mathlib.Core.Path.{ap, _∙_}
 use borrow.Author.Needs.{needs}
-use Rattle.refusals.specs.Outcome.{Outcome, changed}
-use Rattle.alike.specs.declared.Counts.{Counts}
+use Rattle.refusals.specs.Outcome.{changed}
 use Rattle.alike.specs.declared.Alike.the-variants as how
 use Rattle.alike.proofs.inner.told as call
 
