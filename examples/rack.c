@@ -3,7 +3,8 @@
  * that the rack keeps itself, and the UTC count becomes a civil date and time. The second that was inserted at the end
  * of 2016 shows that one UTC count can name two instants; the civil reading 23:59:60 names that second alone. A refusal
  * tells an operator which field to type again. From the expiry of the rack's table on, the rack lights a lamp and goes
- * on stamping.
+ * on stamping. Before a station is sent a new table, the call on two tables says from which counts on its stamps may
+ * change.
  *
  * ./test compiles it with include/plaitgate.h, links the library and compares what it writes with rack.out.
  */
@@ -75,6 +76,41 @@ static void stamp_by_table(uint64_t gps, const uint8_t *table, size_t table_byte
     printf("GPS %" PRIu64 " is UTC %" PRIu64 ", lamp %s\n", gps, utc, stale ? "on" : "off");
 }
 
+/* What a new table may change for a station that has an old one. Each result is 9 before the call, which writes it. */
+static void compare_tables(const char *which, const uint8_t *old_table, const uint8_t *new_table)
+{
+    uint8_t how = 9;
+    uint64_t gps = 9, utc = 9;
+    uint32_t why = plaitgate_table_alike(old_table, PLAITGATE_IMAGE_BYTES, new_table, PLAITGATE_IMAGE_BYTES,
+                                         &how, &gps, &utc);
+
+    printf("%s: gives %" PRIu32 ", how %u, GPS %" PRIu64 ", UTC %" PRIu64 "\n", which, why, how, gps, utc);
+}
+
+/* The table of 2015 is the built-in one without its last entry, which is that of 2017-01-01. */
+static void compare_before_sending(void)
+{
+    uint8_t built_in[PLAITGATE_IMAGE_BYTES], of_2015[PLAITGATE_IMAGE_BYTES], moved[PLAITGATE_IMAGE_BYTES];
+    uint64_t threshold;
+
+    plaitgate_table_from_builtin(built_in, sizeof built_in);
+    memcpy(of_2015, built_in, sizeof built_in);
+    of_2015[0]--;
+    memcpy(moved, of_2015, sizeof of_2015);
+    plaitgate_entry_of_event(2017, 7, 1, 37, &threshold);
+    plaitgate_table_try_extend(moved, sizeof moved, threshold, 37);
+
+    compare_tables("2015 table to built-in table", of_2015, built_in);
+    compare_tables("built-in table to 2015 table", built_in, of_2015);
+    compare_tables("built-in table to one with its last leap second half a year later", built_in, moved);
+    compare_tables("built-in table to itself", built_in, built_in);
+    built_in[8] = 1; /* the first threshold, which is 0 in a regular table */
+    compare_tables("2015 table to one that begins at 1 ns", of_2015, built_in);
+    built_in[0] = 65;
+    compare_tables("forged table to 2015 table", built_in, of_2015);
+    compare_tables("2015 table to forged table", of_2015, built_in);
+}
+
 int main(void)
 {
     uint8_t table[PLAITGATE_IMAGE_BYTES], before[PLAITGATE_IMAGE_BYTES];
@@ -123,5 +159,7 @@ int main(void)
 
     table[0] = 65;
     printf("a length of 65: refused %" PRIu32 "\n", plaitgate_table_len(table, sizeof table, &length));
+
+    compare_before_sending();
     return 0;
 }

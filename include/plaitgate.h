@@ -627,6 +627,37 @@ uint32_t plaitgate_table_current_tai_minus_utc(const uint8_t *image, size_t imag
 uint32_t plaitgate_table_tai_minus_utc_at(const uint8_t *image, size_t image_bytes, uint64_t tai, int32_t *offset,
                                           uint8_t *stale);
 
+/* ---- Two tables ---- */
+
+/* How far two tables convert alike. */
+enum plaitgate_alike {
+    /* nothing is said: the tables differ, and one of them is not regular */
+    PLAITGATE_ALIKE_IRREGULAR = 0,
+    /* everywhere: they have the same entries */
+    PLAITGATE_ALIKE_EVERYWHERE = 1,
+    /* before two counts: one table extends the other */
+    PLAITGATE_ALIKE_BEFORE = 2,
+    /* before two counts: neither table extends the other */
+    PLAITGATE_ALIKE_APART = 3
+};
+
+/* How far the table in an old image and the one in a new image convert alike: `how` is one of enum plaitgate_alike.
+   Asked before a new table is sent to a station that has the old one, it tells which answers there may change. Where
+   `how` is 2 or 3, `gps` is the first GPS count whose UTC count may differ, and `utc` the first UTC count whose GPS
+   count may differ; where it is 0 or 1, both are 0. They are those of the first entry that one table has and the other
+   has not: `gps` is its threshold less 19 s, and `utc` is one second past its event, which is the threshold less the
+   offset in seconds, plus 252892800 s. (A table is regular if it begins (0, 19) and each threshold after the first is
+   at least 86400 s above the one before.)
+   Below these counts both tables give the same count or the same refusal: from GPS to UTC, GLONASS and Unix seconds,
+   and from Galileo and BeiDou to UTC and GLONASS, where the GPS count is below `gps`; from UTC, GLONASS and Unix
+   seconds to GPS, where the UTC count is below `utc`. From UTC and GLONASS to Galileo and BeiDou they do so where, in
+   addition, the GPS count that plaitgate_table_utc_to_gps gives is not before the epoch of the scale. Nothing is said
+   of civil readings, or of `stale`: the expiry does not matter here.
+   Both images are only read, so they may be the same bytes. Refuses with 8 where the old image holds no valid table,
+   with 8 where the new one holds none, and with 1 where `gps` or `utc` is below 0 or above 64 bits, in this order. */
+uint32_t plaitgate_table_alike(const uint8_t *old_image, size_t old_image_bytes, const uint8_t *new_image,
+                               size_t new_image_bytes, uint8_t *how, uint64_t *gps, uint64_t *utc);
+
 /* ---- Lent lists of entries ---- */
 
 /*
