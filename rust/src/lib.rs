@@ -38,6 +38,7 @@
 #![warn(missing_debug_implementations, unused_must_use)]
 #![deny(unsafe_op_in_unsafe_fn, unsafe_code)]
 
+mod alike;
 mod civil;
 mod civil_error;
 mod convert;
@@ -59,6 +60,7 @@ mod table;
 mod utc;
 mod weeks;
 
+pub use alike::Alike;
 pub use civil::{CivilDate, CivilDateTime};
 pub use civil_error::CivilError;
 pub use convert::{glonass_to_gps, glonass_to_utc, gps_to_glonass, gps_to_utc, utc_to_glonass, utc_to_gps};

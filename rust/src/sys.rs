@@ -290,6 +290,30 @@ of_bytes! { declared_of_lists:
     list_tai_minus_utc_at()(entries: &[u8])(tai: u64) -> (offset: i32, stale: u8);
 }
 
+/// The one function that reads two images: how far their tables convert alike, and the two counts.
+pub fn table_alike(old_image: &Image, new_image: &Image) -> Result<(u8, u64, u64)> {
+    extern "C" {
+        #[link_name = "plaitgate_table_alike"]
+        fn exported(
+            old_image: *const u8,
+            old_image_bytes: usize,
+            new_image: *const u8,
+            new_image_bytes: usize,
+            how: *mut u8,
+            gps: *mut u64,
+            utc: *mut u64,
+        ) -> u32;
+    }
+    let (mut how, mut gps, mut utc) = (0, 0, 0);
+    // SAFETY: the types are those of the header (tests::the_header). The images are lent, so that no result lies in
+    // them, and have as many bytes as are said; they are only read, and may be one. Each result has a place of its own.
+    // All outlive the call, which takes any bytes and keeps no pointer.
+    let number = unsafe {
+        exported(old_image.as_ptr(), old_image.len(), new_image.as_ptr(), new_image.len(), &mut how, &mut gps, &mut utc)
+    };
+    answer(number, (how, gps, utc))
+}
+
 // shifted scales, by tools/write-scales
 of_numbers! { declared_of_shifted_scales:
     galileo_to_gps(galileo: u64) -> (gps: u64);

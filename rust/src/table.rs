@@ -1,7 +1,7 @@
 //! Leap-second tables: the rack's own, and the built-in one.
 
 use crate::sys::{self, always, Image, ENTRY_BYTES};
-use crate::{Dated, Error, LeapEntry, ListError, Result, Tai};
+use crate::{Alike, Dated, Error, LeapEntry, ListError, Result, Tai};
 use core::fmt;
 
 /// How many entries a table has room for.
@@ -204,6 +204,39 @@ impl LeapTable {
     pub fn with_expiry(mut self, expiry: Option<Tai>) -> Self {
         always(sys::table_set_expiry(&mut self.image, expiry.unwrap_or(Tai::MAX).as_nanos()));
         self
+    }
+
+    /// How far this table and a new one convert alike. Asked before the new one is sent to a station that has this one,
+    /// it tells which answers there may change.
+    ///
+    /// ```
+    /// use plaitgate::{gps_to_utc, utc_to_gps, Alike, CivilDateTime, LeapEntry, LeapTable};
+    ///
+    /// // the table of 2015, and the one that also has the leap second at the end of 2016
+    /// let new = LeapTable::builtin();
+    /// let entries: Vec<LeapEntry> = new.entries().collect();
+    /// let old = LeapTable::from_entries(&entries[..18])?;
+    ///
+    /// let Alike::Before { gps, utc } = old.alike(&new)? else { panic!("the new table extends the old one") };
+    /// let new_year = CivilDateTime { year: 2017, month: 1, day: 1, hour: 0, minute: 0, second: 0, nanos: 0 };
+    /// assert_eq!(gps.to_civil()?, new_year);
+    /// assert_eq!(utc.to_civil(), CivilDateTime { second: 1, ..new_year });
+    ///
+    /// assert_ne!(gps_to_utc(gps, &old), gps_to_utc(gps, &new));
+    /// assert_ne!(utc_to_gps(utc, &old), utc_to_gps(utc, &new));
+    /// assert_eq!(new.alike(&new), Ok(Alike::Everywhere));
+    /// # Ok::<(), plaitgate::Error>(())
+    /// ```
+    ///
+    /// Before the two counts both tables give the same count or the same refusal: from GPS to UTC, GLONASS and Unix
+    /// seconds, and from Galileo and BeiDou to UTC and GLONASS, where the GPS count is before `gps`; from UTC, GLONASS
+    /// and Unix seconds to GPS, where the UTC count is before `utc`. From UTC and GLONASS to Galileo and BeiDou they do
+    /// so where, in addition, the GPS count that [`to_gps_with`](crate::Utc::to_gps_with) gives is not before the epoch
+    /// of the scale. Nothing is said of civil readings, or of [`Dated::stale`]: the expiry does not matter here.
+    ///
+    /// Refuses with [`Overflow`](crate::Error::Overflow) where one of the two counts does not fit.
+    pub fn alike(&self, new: &LeapTable) -> Result<Alike> {
+        sys::table_alike(&self.image, &new.image).map(Alike::of)
     }
 
     /// The last offset, or 19 where there is no entry.

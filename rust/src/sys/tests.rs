@@ -29,7 +29,8 @@ fn in_c((_, declared): (&str, &str)) -> String {
 }
 
 fn declared_here() -> BTreeSet<String> {
-    let writing = [
+    let by_hand = [
+        ("table_alike", "const uint8_t *, size_t, const uint8_t *, size_t, uint8_t *, uint64_t *, uint64_t *"),
         ("table_new", "uint8_t *, size_t"),
         ("table_from_builtin", "uint8_t *, size_t"),
         ("table_from_entries", "const uint8_t *, size_t, uint8_t *, size_t"),
@@ -37,7 +38,7 @@ fn declared_here() -> BTreeSet<String> {
         ("table_try_extend", "uint8_t *, size_t, uint64_t, int32_t"),
         ("table_set_expiry", "uint8_t *, size_t, uint64_t"),
     ];
-    let writing = writing.into_iter().map(|(name, types)| declaration(name, &[types.to_string()]));
+    let by_hand = by_hand.into_iter().map(|(name, types)| declaration(name, &[types.to_string()]));
     let by_macros = [
         declared_of_numbers(),
         declared_of_images(),
@@ -46,7 +47,7 @@ fn declared_here() -> BTreeSet<String> {
         declared_of_shifted_scales_by_images(),
         declared_of_two_shifted_scales(),
     ];
-    by_macros.into_iter().flatten().chain(writing).collect()
+    by_macros.into_iter().flatten().chain(by_hand).collect()
 }
 
 #[test]
@@ -111,9 +112,51 @@ fn a_forged_image_is_refused_by_8_in_every_call_and_is_left_alone() {
     assert_eq!(table_gps_as_unix_seconds(u64::MAX, &forged), Err(bad));
     assert_eq!(table_gps_to_civil(u64::MAX, &forged), Err(bad));
     assert_eq!(table_civil_to_gps(i32::MIN, 0, 0, 0, 0, 60, 0, &forged), Err(bad));
+    let valid = table_from_builtin().unwrap();
+    for (old, new) in [(&forged, &valid), (&valid, &forged), (&forged, &forged)] {
+        assert_eq!(table_alike(old, new), Err(bad));
+    }
     assert_eq!(table_try_extend(&mut forged, u64::MAX, 38), Err(bad));
     assert_eq!(table_set_expiry(&mut forged, 0), Err(bad));
     assert_eq!(forged, before);
+}
+
+/// Whether the bytes hold a table, read from them number by number.
+fn holds_a_table(image: &Image) -> bool {
+    let number =
+        |at: usize, bytes: usize| image[at..at + bytes].iter().rev().fold(0, |n, byte| n << 8 | i128::from(*byte));
+    let threshold = |place: usize| number(8 + 8 * place, 8);
+    let offset = |place: usize| number(520 + 4 * place, 4) as u32 as i32;
+    let follows = |place: usize| {
+        threshold(place) > threshold(place - 1) && i64::from(offset(place)) == i64::from(offset(place - 1)) + 1
+    };
+    number(0, 8) <= 64 && (1..number(0, 8) as usize).all(follows)
+}
+
+/// The built-in table with up to two of its numbers changed by a bit: its length, a threshold, an offset or the expiry.
+fn changed(step: u64) -> Image {
+    let mut image = table_from_builtin().unwrap();
+    let mut bits = step.wrapping_mul(0x9e37_79b9_7f4a_7c15);
+    for _ in 0..bits % 3 {
+        bits = (bits ^ (bits >> 29)).wrapping_mul(0xbf58_476d_1ce4_e5b9);
+        let place = (bits >> 8) as usize;
+        let at = [place % 8, 8 + place % 160, 520 + place % 80, 776 + place % 8][(bits >> 2) as usize % 4];
+        image[at] ^= 1 << (bits >> 5) % 8;
+    }
+    image
+}
+
+#[test]
+fn of_two_images_a_forged_one_in_either_place_is_refused_by_8() {
+    let mut met = [0; 4];
+    for step in 0..4_000 {
+        let (old, new) = (changed(step), changed(step + 10_000));
+        let valid = [&old, &new].map(holds_a_table);
+        let told = table_alike(&old, &new);
+        assert_eq!(told == Err(Error::BadTable), valid != [true; 2], "{old:?} and {new:?}");
+        met[usize::from(valid[0]) + 2 * usize::from(valid[1])] += 1;
+    }
+    assert!(met.iter().all(|times| *times > 100), "not every kind of pair came often: {met:?}");
 }
 
 #[test]
