@@ -1,6 +1,8 @@
 //! The oracle: the crate gnss-time and the port in one process, compared call by call.
 //! `oracle/run` builds it and runs it.
 
+mod alike;
+mod alike_rules;
 mod by_list;
 mod by_table;
 mod call;
@@ -63,7 +65,7 @@ fn main() -> ExitCode {
             return failed(&format!("cannot write {file}: {error}"));
         }
     }
-    let apart = [readings::prototypes(), vec![published::prototype()]].concat();
+    let apart = [readings::prototypes(), vec![published::prototype(), alike::prototype()]].concat();
     let disagreements = header::disagreements(calls.iter().chain(&with_expiries), apart);
     if !disagreements.is_empty() {
         return failed(&format!("include/plaitgate.h and the oracle disagree\n{}", disagreements.join("\n")));
@@ -157,7 +159,7 @@ fn run(calls: &[call::Call], with_expiries: &[call::Call], seed: u64, count: u64
         return failed("an expiry was not met in each of the five ways");
     }
     println!("oracle: {} comparisons by the rules, with expiries, no difference", dated.comparisons);
-    for compare in [published::compare, readings::compare, peers::compare] {
+    for compare in [published::compare, alike::compare, readings::compare, peers::compare] {
         match compare(seed, count) {
             Ok(sentences) => sentences.iter().for_each(|sentence| println!("oracle: {sentence}")),
             Err(reason) => return failed(&reason),

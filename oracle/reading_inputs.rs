@@ -382,7 +382,7 @@ fn draw_days(chance: &mut Chance) -> Vec<i128> {
 }
 
 /// An image with one to three bytes changed, or with fewer bytes or more.
-fn draw_forgery(chance: &mut Chance, mut bytes: Vec<u8>) -> Vec<u8> {
+pub fn draw_forgery(chance: &mut Chance, mut bytes: Vec<u8>) -> Vec<u8> {
     if chance.below(4) == 0 {
         bytes.resize(chance.one_of(&[0, 776, 783, 785, 1_568]) as usize, 0);
         return bytes;
