@@ -31,7 +31,7 @@ use Rattle.demands.proofs.PartedLists.{nowhere, onward, GoesOn, apart, 
 use Rattle.demands.proofs.Forks.{AlikeBy, Parts, at-onward, at-fork}
 
 -- ---- what is told is what the definition says
-clash : {A : Type 0} → _≡_ {A = ℕ} 0 1 → A
+pub clash : {A : Type 0} → _≡_ {A = ℕ} 0 1 → A
 clash z = absurd (omega arith)
 
 -- both steps of an answer, and the step of a refusal
@@ -40,7 +40,7 @@ two-steps : {A B : Type 0} (o : Outcome A) (f : A → Outcome B) {b : B} → the
 two-steps (answered a) f e = (a, refl, e)
 two-steps (refused k) f e = clash (cc)
 
-changed-from : {A B : Type 0} (f : A → B) (o : Outcome A) {b : B} → changed f o ≡ answered b
+pub changed-from : {A B : Type 0} (f : A → B) (o : Outcome A) {b : B} → changed f o ≡ answered b
     → (a : A) × (o ≡ answered a) × (f a ≡ b)
 changed-from f (answered a) e = (a, refl, cc)
 changed-from f (refused k) e = clash (cc)

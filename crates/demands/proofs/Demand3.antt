@@ -28,6 +28,7 @@ use Rattle.builtin.specs.Builtin.{builtin}
 use Rattle.builtin.proofs.Regular.{builtin-regular}
 use Rattle.demands.specs.TwoInstants.{TwoInstants}
 use Rattle.demands.specs.OfCalls.{Allows, TwoInstantsOf, Regular, Demand3}
+use Rattle.demands.specs.OfCalls.{ToUtcByValue, ToGpsByValue, ToUtcInPlace, ToGpsInPlace, ToUtcExported, ToGpsExported}
 use Rattle.demands.proofs.AnswerOrRefusal.{to-utc-numbered, to-gps-numbered, by-image-numbered}
 use Rattle.conversions.proofs.LeapSeconds.{leaps, counted}
 use Rattle.demands.proofs.SameAnswers.{kept}
@@ -96,34 +97,51 @@ module _ {A B : Type 0} (convert : List Entry → B → Outcome A) {b : List ℕ
       let given = gives-same zeros (by-bytes b′ (λ es. tai es m) (λ es. convert es m) refl) (value-given zeros whole p) in
       told-is zeros _ (by-image-numbered b′ (λ es. convert es m) (λ es. numbered es m)) given ∙ of-image asked
 
+-- ---- each call by a table, as its contract says
+pub value-to-utc : (t : LeapTable) (g : ℕ) (o : Outcome ℕ) → ToUtcByValue t g o → o ≡ ofValid t (gpsToUtc (entriesOf t) g)
+value-to-utc t g = allowed _ (λ κ a x e q (d, is, p).
+    ap utcIn (sym is) ∙ by-table (a .1 .0) (a .0 .0 + taiMinusGps) (gpsToUtc (entriesOf (a .1 .0)) (a .0 .0)) p
+    ∙ (λ i. ofValid (q .1 i) (gpsToUtc (entriesOf (q .1 i)) (q .0 i))))
+
+pub value-to-gps : (t : LeapTable) (u : ℕ) (o : Outcome ℕ) → ToGpsByValue t u o → o ≡ ofValid t (utcToGps (entriesOf t) u)
+value-to-gps t u = allowed _ (λ κ a x e q (d, is, p).
+    ap gpsIn (sym is) ∙ by-table (a .1 .0) (lastReading (entriesOf (a .1 .0)) (a .0 .0)) (utcToGps (entriesOf (a .1 .0)) (a .0 .0)) p
+    ∙ (λ i. ofValid (q .1 i) (utcToGps (entriesOf (q .1 i)) (q .0 i))))
+
+module _ (b : List ℕ) (size : length b ≡ imageBytes) where
+  abbrev t : LeapTable
+  t = tableIn b
+
+  pub image-to-utc : (g : ℕ) (o : Outcome ℕ) → ToUtcInPlace b g o → o ≡ ofValid t (gpsToUtc (entriesOf t) g)
+  image-to-utc g = allowed _ (λ κ a r e q (d, is, p).
+      ap countIn (sym is) ∙ by-bytes (now (a .1 .0)) (λ es. valueIn 0 (countIn (a .0)) + taiMinusGps) (λ es. then (countIn (a .0)) (gpsToUtc es)) p
+      ∙ (λ i. byImage (now (a .1 .0)) (λ es. then (countIn (q .0 i)) (gpsToUtc es)))
+      ∙ of-image gpsToUtc size {n = g} (refl, q .1))
+
+  pub image-to-gps : (u : ℕ) (o : Outcome ℕ) → ToGpsInPlace b u o → o ≡ ofValid t (utcToGps (entriesOf t) u)
+  image-to-gps u = allowed _ (λ κ a r e q (d, is, p).
+      ap countIn (sym is) ∙ by-bytes (now (a .1 .0)) (λ es. lastReading es (valueIn 0 (countIn (a .0)))) (λ es. then (countIn (a .0)) (utcToGps es)) p
+      ∙ (λ i. byImage (now (a .1 .0)) (λ es. then (countIn (q .0 i)) (utcToGps es)))
+      ∙ of-image utcToGps size {n = u} (refl, q .1))
+
+  pub host-to-utc : (g : ℕ) (o : Outcome ℕ) → ToUtcExported b g o → o ≡ ofValid t (gpsToUtc (entriesOf t) g)
+  host-to-utc g = allowed _ (λ κ a k e q p. as-told gpsToUtc size 0 (λ es g. g + taiMinusGps) to-utc-numbered q p)
+
+  pub host-to-gps : (u : ℕ) (o : Outcome ℕ) → ToGpsExported b u o → o ≡ ofValid t (utcToGps (entriesOf t) u)
+  host-to-gps u = allowed _ (λ κ a k e q p. as-told utcToGps size 0 lastReading to-gps-numbered q p)
+
 pub demand-3 : Demand3
 demand-3 = record {
   by-value = λ t r.
-      of-table t r taiMinusGps (by-regular-lists (entriesOf t) (r .1))
-      (λ g. allowed _ (λ κ a x e q (d, is, p).
-      ap utcIn (sym is) ∙ by-table (a .1 .0) (a .0 .0 + taiMinusGps) (gpsToUtc (entriesOf (a .1 .0)) (a .0 .0)) p
-      ∙ (λ i. ofValid (q .1 i) (gpsToUtc (entriesOf (q .1 i)) (q .0 i)))))
-      (λ u. allowed _ (λ κ a x e q (d, is, p).
-      ap gpsIn (sym is) ∙ by-table (a .1 .0) (lastReading (entriesOf (a .1 .0)) (a .0 .0)) (utcToGps (entriesOf (a .1 .0)) (a .0 .0)) p
-      ∙ (λ i. ofValid (q .1 i) (utcToGps (entriesOf (q .1 i)) (q .0 i)))));
+      of-table t r taiMinusGps (by-regular-lists (entriesOf t) (r .1)) (value-to-utc t) (value-to-gps t);
   in-place = λ b size r.
-      of-table (tableIn b) r taiMinusGps (by-regular-lists (entriesOf (tableIn b)) (r .1))
-      (λ g. allowed _ (λ κ a r e q (d, is, p).
-      ap countIn (sym is) ∙ by-bytes (now (a .1 .0)) (λ es. valueIn 0 (countIn (a .0)) + taiMinusGps) (λ es. then (countIn (a .0)) (gpsToUtc es)) p
-      ∙ (λ i. byImage (now (a .1 .0)) (λ es. then (countIn (q .0 i)) (gpsToUtc es)))
-      ∙ of-image gpsToUtc size {n = g} (refl, q .1)))
-      (λ u. allowed _ (λ κ a r e q (d, is, p).
-      ap countIn (sym is) ∙ by-bytes (now (a .1 .0)) (λ es. lastReading es (valueIn 0 (countIn (a .0)))) (λ es. then (countIn (a .0)) (utcToGps es)) p
-      ∙ (λ i. byImage (now (a .1 .0)) (λ es. then (countIn (q .0 i)) (utcToGps es)))
-      ∙ of-image utcToGps size {n = u} (refl, q .1)));
+      of-table (tableIn b) r taiMinusGps (by-regular-lists (entriesOf (tableIn b)) (r .1)) (image-to-utc b size) (image-to-gps b size);
   built-in =
       of-pair builtin taiMinusGps (by-regular-lists builtin builtin-regular)
       (λ g. allowed _ (λ κ a r e q p. p ∙ ap (gpsToUtc builtin) q))
       (λ u. allowed _ (λ κ a r e q p. p ∙ ap (utcToGps builtin) q));
   exported = λ b size r.
-      of-table (tableIn b) r taiMinusGps (by-regular-lists (entriesOf (tableIn b)) (r .1))
-      (λ g. allowed _ (λ κ a k e q p. as-told gpsToUtc size 0 (λ es g. g + taiMinusGps) to-utc-numbered q p))
-      (λ u. allowed _ (λ κ a k e q p. as-told utcToGps size 0 lastReading to-gps-numbered q p));
+      of-table (tableIn b) r taiMinusGps (by-regular-lists (entriesOf (tableIn b)) (r .1)) (host-to-utc b size) (host-to-gps b size);
   exported-built-in =
       of-pair builtin taiMinusGps (by-regular-lists builtin builtin-regular)
       (λ g. allowed _ (λ κ a k e q p. told-is 0 _ (to-utc-numbered builtin (a .0)) p ∙ ap (gpsToUtc builtin) q))

@@ -37,7 +37,7 @@ swapped a = record {
     to-utc = λ g fits l. sym (a .same .to-utc g fits l);
     to-gps = λ u fits l. sym (a .same .to-gps u fits l);
   };
-  gps-differs = λ g u at there there′. a .gps-differs g u at there′ there;
+  gps-differs = λ g u at fits there there′. a .gps-differs g u at fits there′ there;
   utc-differs = λ u g at fits back back′. a .utc-differs u g at fits back′ back;
 }
 
@@ -49,7 +49,7 @@ module _ (es : List Entry) (e : Entry) (rest : List Entry) (r : regular es ≡ t
   goes-past : AlikeBy (gpsFrom e) (utcFrom e) es (es ++ e ∷ rest)
   goes-past = record {
     same = same-before es e rest r (offset-is es e rest r r′) late;
-    gps-differs = λ g u at there there′.
+    gps-differs = λ g u at fits there there′.
         let (v, more, gives) = changes-at es e rest r r′ .to-utc g u at there in
         omega (arith, more, one-answer (gpsToUtc (es ++ e ∷ rest) g) there′ gives);
     utc-differs = λ u g at fits back back′.
@@ -84,7 +84,7 @@ module _ (p : List Entry) (e : Entry) (es : List Entry) (f : Entry) (fs : List E
           let below = utc-below e n u (offset-is p e es r r₁) l in
           utc-of-other u fits (omega arith) ∙ sym (utc-of-one u fits below);
     };
-    gps-differs = λ g u at there there′.
+    gps-differs = λ g u at fits there there′.
         let here : tai g ≡ threshold e = natural g (threshold e) taiMinusGps (at ∙ of-naturals (threshold e) taiMinusGps) in
         let common = sym (gps-of-other g (omega arith)) ∙ there′ in
         let (v, more, gives) = changes-at p e es r r₁ .to-utc g u at common in

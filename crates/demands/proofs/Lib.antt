@@ -9,6 +9,8 @@ pub mod AddedEntries
 mod PartedLists
 mod Forks
 pub mod AlikeLists
+pub mod OfAdded
+pub mod OfAlike
 pub mod FixedDifference
 pub mod Shifted
 pub mod Demand1

@@ -16,7 +16,7 @@ use Rattle.demands.specs.SameBefore.{SameBefore, OtherScales}
 -- the same before the counts; and at the counts no answer is the same
 pub record AlikeBefore (gps utc : ℤ) (there there′ back back′ : ℕ → Outcome ℕ) : Type 0 where
   pub same : SameBefore gps utc there there′ back back′
-  pub gps-differs : (g u : ℕ) → pos g ≡ gps → there g ≡ answered u → there′ g ≡ answered u → ⊥
+  pub gps-differs : (g u : ℕ) → pos g ≡ gps → g < 2 ^ 64 → there g ≡ answered u → there′ g ≡ answered u → ⊥
   pub utc-differs : (u g : ℕ) → pos u ≡ utc → u < 2 ^ 64 → back u ≡ answered g → back′ u ≡ answered g → ⊥
 
 -- `fs` is `es` and entries after it

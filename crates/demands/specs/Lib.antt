@@ -10,4 +10,5 @@ pub mod Stale
 pub mod SameBefore
 pub mod AddedEntries
 pub mod AlikeLists
+pub mod OfAdded
 pub mod Examples

@@ -46,23 +46,42 @@ TwoInstantsOf es lead There Back =
 abbrev pub Regular : LeapTable → Type 0
 Regular t = (t .len ≤ 64) × (regular (entriesOf t) ≡ true)
 
+-- ---- what the calls between GPS and UTC are allowed to answer: by a table, `conversions::gps_to_utc` and `utc_to_gps`
+abbrev pub ToUtcByValue : LeapTable → ℕ → Outcome ℕ → Type 0
+ToUtcByValue t g = Allows gps-to-utc.Post (λ κ a. (a .0 .0 ≡ g) × (a .1 .0 ≡ t)) (λ κ r e. utcIn r)
+
+abbrev pub ToGpsByValue : LeapTable → ℕ → Outcome ℕ → Type 0
+ToGpsByValue t u = Allows utc-to-gps.Post (λ κ a. (a .0 .0 ≡ u) × (a .1 .0 ≡ t)) (λ κ r e. gpsIn r)
+
+-- by an image, `images::table::utc_from_gps` and `gps_from_utc`
+abbrev pub ToUtcInPlace : List ℕ → ℕ → Outcome ℕ → Type 0
+ToUtcInPlace b g =
+    Allows image-utc-from-gps.Post (λ κ a. (a .0 ≡ count.Count g) × (now (a .1 .0) ≡ b)) (λ κ r e. countIn r)
+
+abbrev pub ToGpsInPlace : List ℕ → ℕ → Outcome ℕ → Type 0
+ToGpsInPlace b u =
+    Allows image-gps-from-utc.Post (λ κ a. (a .0 ≡ count.Count u) × (now (a .1 .0) ≡ b)) (λ κ r e. countIn r)
+
+-- and for hosts, `plaitgate_table_gps_to_utc` and `plaitgate_table_utc_to_gps`
+abbrev pub ToUtcExported : List ℕ → ℕ → Outcome ℕ → Type 0
+ToUtcExported b g =
+    Allows host-to-utc.Post (λ κ a. (a .0 ≡ g) × (now (a .1 .0) ≡ b)) (λ κ k e. unless k (now (e .1 .1 .0)))
+
+abbrev pub ToGpsExported : List ℕ → ℕ → Outcome ℕ → Type 0
+ToGpsExported b u =
+    Allows host-to-gps.Post (λ κ a. (a .0 ≡ u) × (now (a .1 .0) ≡ b)) (λ κ k e. unless k (now (e .1 .1 .0)))
+
 pub record Demand3 : Type 0 where
-  -- `conversions::gps_to_utc` and `utc_to_gps`, by a table
-  pub by-value : (t : LeapTable) → Regular t → TwoInstantsOf (entriesOf t) taiMinusGps
-      (λ g. Allows gps-to-utc.Post (λ κ a. (a .0 .0 ≡ g) × (a .1 .0 ≡ t)) (λ κ r e. utcIn r))
-      (λ u. Allows utc-to-gps.Post (λ κ a. (a .0 .0 ≡ u) × (a .1 .0 ≡ t)) (λ κ r e. gpsIn r))
-  -- `images::table::utc_from_gps` and `gps_from_utc`, by an image
-  pub in-place : (b : List ℕ) → length b ≡ imageBytes → Regular (tableIn b) → TwoInstantsOf (entriesOf (tableIn b)) taiMinusGps
-      (λ g. Allows image-utc-from-gps.Post (λ κ a. (a .0 ≡ count.Count g) × (now (a .1 .0) ≡ b)) (λ κ r e. countIn r))
-      (λ u. Allows image-gps-from-utc.Post (λ κ a. (a .0 ≡ count.Count u) × (now (a .1 .0) ≡ b)) (λ κ r e. countIn r))
+  pub by-value : (t : LeapTable) → Regular t
+      → TwoInstantsOf (entriesOf t) taiMinusGps (ToUtcByValue t) (ToGpsByValue t)
+  pub in-place : (b : List ℕ) → length b ≡ imageBytes → Regular (tableIn b)
+      → TwoInstantsOf (entriesOf (tableIn b)) taiMinusGps (ToUtcInPlace b) (ToGpsInPlace b)
   -- `builtin::gps_to_utc` and `utc_to_gps`
   pub built-in : TwoInstantsOf builtin taiMinusGps
       (λ g. Allows builtin-gps-to-utc.Post (λ κ a. a .0 .0 ≡ g) (λ κ r e. utcIn r))
       (λ u. Allows builtin-utc-to-gps.Post (λ κ a. a .0 .0 ≡ u) (λ κ r e. gpsIn r))
-  -- `plaitgate_table_gps_to_utc` and `plaitgate_table_utc_to_gps`, by an image
-  pub exported : (b : List ℕ) → length b ≡ imageBytes → Regular (tableIn b) → TwoInstantsOf (entriesOf (tableIn b)) taiMinusGps
-      (λ g. Allows host-to-utc.Post (λ κ a. (a .0 ≡ g) × (now (a .1 .0) ≡ b)) (λ κ k e. unless k (now (e .1 .1 .0))))
-      (λ u. Allows host-to-gps.Post (λ κ a. (a .0 ≡ u) × (now (a .1 .0) ≡ b)) (λ κ k e. unless k (now (e .1 .1 .0))))
+  pub exported : (b : List ℕ) → length b ≡ imageBytes → Regular (tableIn b)
+      → TwoInstantsOf (entriesOf (tableIn b)) taiMinusGps (ToUtcExported b) (ToGpsExported b)
   -- `plaitgate_builtin_gps_to_utc` and `plaitgate_builtin_utc_to_gps`
   pub exported-built-in : TwoInstantsOf builtin taiMinusGps
       (λ g. Allows host-builtin-gps-to-utc.Post (λ κ a. a .0 ≡ g) (λ κ k e. unless k (now (e .1 .0))))

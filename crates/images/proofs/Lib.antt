@@ -4,7 +4,7 @@ pub mod ListedEntries
 mod InBytes
 pub mod Inverses
 pub mod NothingLost
-mod InSlots
+pub mod InSlots
 mod OnePass
 mod DaysPassed
 mod Judged
