@@ -1,16 +1,7 @@
 mod WayBack
 mod SameAnswers
-mod AnswerOrRefusal
+pub mod AnswerOrRefusal
 mod SameReadings
-mod BelowEntry
-mod SameBefore
-mod OtherScales
-pub mod AddedEntries
-mod PartedLists
-mod Forks
-pub mod AlikeLists
-pub mod OfAdded
-pub mod OfAlike
 pub mod FixedDifference
 pub mod Shifted
 pub mod Demand1

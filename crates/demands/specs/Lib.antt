@@ -7,8 +7,4 @@ pub mod OfReadings
 pub mod RoundTrips
 pub mod RefusalsLeave
 pub mod Stale
-pub mod SameBefore
-pub mod AddedEntries
-pub mod AlikeLists
-pub mod OfAdded
 pub mod Examples

@@ -16,13 +16,13 @@ use Rattle.tables.proofs.Extensions.{Sized, Grows, extension-grows, joined-size
 use Rattle.images.specs.Image.{tableIn}
 use Rattle.images.proofs.InSlots.{table-sized}
 use Rattle.conversions.specs.Conversions.{gpsToUtc, utcToGps}
 use Rattle.demands.specs.OfCalls.{Regular}
-use Rattle.demands.specs.SameBefore.{gpsFrom, utcFrom, SameBefore, SameByLists}
-use Rattle.demands.specs.AddedEntries.{after, joined}
-use Rattle.demands.specs.AlikeLists.{AlikeBefore}
-use Rattle.demands.specs.OfAdded.{OfAnswers, AddedOfCalls}
+use Rattle.pushing.specs.SameBefore.{gpsFrom, utcFrom, SameBefore, SameByLists}
+use Rattle.pushing.specs.AddedEntries.{after, joined}
+use Rattle.pushing.specs.AlikeLists.{AlikeBefore}
+use Rattle.pushing.specs.OfAdded.{OfAnswers, AddedOfCalls}
 use Rattle.demands.proofs.Demand3.{regular-valid, value-to-utc, value-to-gps, image-to-utc, image-to-gps, host-to-utc, host-to-gps}
-use Rattle.demands.proofs.AddedEntries.{added-entries}
+use Rattle.pushing.proofs.AddedEntries.{added-entries}
 
 -- two ways to convert, and what answers as they do on counts of 64 bits
 module _ {there there′ back back′ f f′ g g′ : ℕ → Outcome ℕ} (a : (n : ℕ) → n < 2 ^ 64 → there n ≡ f n)

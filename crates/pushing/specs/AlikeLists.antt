@@ -11,7 +11,7 @@ use Rattle.conversions.specs.Conversions.{gpsToUtc, utcToGps}
 use Rattle.alike.specs.Alike.{alike}
 use Rattle.alike.specs.declared.Counts.{Counts}
 use Rattle.alike.specs.declared.Alike.the-variants as how
-use Rattle.demands.specs.SameBefore.{SameBefore, OtherScales}
+use Rattle.pushing.specs.SameBefore.{SameBefore, OtherScales}
 
 -- the same before the counts; and at the counts no answer is the same
 pub record AlikeBefore (gps utc : ℤ) (there there′ back back′ : ℕ → Outcome ℕ) : Type 0 where

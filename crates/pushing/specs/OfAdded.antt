@@ -18,11 +18,11 @@ use Rattle.alike.proofs.by_value.alike.Reads as alike-by-value
 use Rattle.alike.proofs.by_image.alike.Reads as alike-by-image
 use Rattle.plaitgate.specs.Tables.{alikeAs, inNumbers}
 use Rattle.plaitgate.proofs.leap_tables.plaitgate_table_alike.Reads as host-alike
 use Rattle.demands.specs.OfCalls.{Allows, Regular, ToUtcByValue, ToGpsByValue, ToUtcInPlace, ToGpsInPlace}
 use Rattle.demands.specs.OfCalls.{ToUtcExported, ToGpsExported}
-use Rattle.demands.specs.SameBefore.{gpsFrom, utcFrom, SameBefore}
-use Rattle.demands.specs.AddedEntries.{after}
-use Rattle.demands.specs.AlikeLists.{AlikeBefore}
+use Rattle.pushing.specs.SameBefore.{gpsFrom, utcFrom, SameBefore}
+use Rattle.pushing.specs.AddedEntries.{after}
+use Rattle.pushing.specs.AlikeLists.{AlikeBefore}
 
 -- whatever two pairs of calls answer to each count of 64 bits, as far as they are allowed to
 abbrev pub OfAnswers : (There There′ Back Back′ : ℕ → Outcome ℕ → Type 0)

@@ -23,12 +23,12 @@ use Rattle.alike.specs.declared.Counts.{Counts}
 use Rattle.alike.specs.declared.Alike.the-variants as how
 use Rattle.alike.specs.declared.inner.Parting.{Parting}
 use Rattle.alike.specs.declared.inner.Parting.the-variants as parts
-use Rattle.demands.specs.SameBefore.{gpsFrom, utcFrom, OtherScales}
-use Rattle.demands.specs.AlikeLists.{Extends, AlikeLists}
-use Rattle.demands.proofs.SameBefore.{below-bound, utc-from}
-use Rattle.demands.proofs.OtherScales.{other-scales}
-use Rattle.demands.proofs.PartedLists.{nowhere, onward, GoesOn, apart, same-parts, extended-parts, extending-parts}
-use Rattle.demands.proofs.Forks.{AlikeBy, Parts, at-onward, at-fork}
+use Rattle.pushing.specs.SameBefore.{gpsFrom, utcFrom, OtherScales}
+use Rattle.pushing.specs.AlikeLists.{Extends, AlikeLists}
+use Rattle.pushing.proofs.SameBefore.{below-bound, utc-from}
+use Rattle.pushing.proofs.OtherScales.{other-scales}
+use Rattle.pushing.proofs.PartedLists.{nowhere, onward, GoesOn, apart, same-parts, extended-parts, extending-parts}
+use Rattle.pushing.proofs.Forks.{AlikeBy, Parts, at-onward, at-fork}
 
 -- ---- what is told is what the definition says
 pub clash : {A : Type 0} → _≡_ {A = ℕ} 0 1 → A

@@ -20,12 +20,12 @@ use Rattle.tables.proofs.Tested.{regular-tested}
 use Rattle.conversions.specs.Conversions.{E, gpsToUtc, utcToGps}
 use Rattle.conversions.proofs.OnNaturals.{tai}
 use Rattle.alike.specs.Alike.{earlier, alike}
-use Rattle.demands.specs.SameBefore.{gpsFrom, utcFrom}
-use Rattle.demands.specs.AlikeLists.{AlikeBefore}
-use Rattle.demands.proofs.SameBefore.{gps-below, utc-from, utc-below, natural, gps-same, utc-same, same-before}
-use Rattle.demands.proofs.SameBefore.{changes-at, a-day-in, offset-is}
-use Rattle.demands.proofs.PartedLists.{GoesOn, Fork}
-use Rattle.demands.proofs.PartedLists.{beginning-regular, some-common, by-threshold}
+use Rattle.pushing.specs.SameBefore.{gpsFrom, utcFrom}
+use Rattle.pushing.specs.AlikeLists.{AlikeBefore}
+use Rattle.pushing.proofs.SameBefore.{gps-below, utc-from, utc-below, natural, gps-same, utc-same, same-before}
+use Rattle.pushing.proofs.SameBefore.{changes-at, a-day-in, offset-is}
+use Rattle.pushing.proofs.PartedLists.{GoesOn, Fork}
+use Rattle.pushing.proofs.PartedLists.{beginning-regular, some-common, by-threshold}
 
 abbrev pub AlikeBy : ℤ → ℤ → List Entry → List Entry → Type 0
 AlikeBy gps utc es fs = AlikeBefore gps utc (gpsToUtc es) (gpsToUtc fs) (utcToGps es) (utcToGps fs)

@@ -21,11 +21,11 @@ use Rattle.alike.specs.Alike.{counts, alike}
 use Rattle.alike.specs.declared.Alike.{Alike}
 use Rattle.alike.specs.declared.Alike.the-variants as how
 use Rattle.plaitgate.specs.Tables.{AlikeTold, alikeAs, inNumbers}
-use Rattle.demands.specs.OfAdded.{OfAnswers, Holds, AlikeOfCalls}
+use Rattle.pushing.specs.OfAdded.{OfAnswers, Holds, AlikeOfCalls}
 use Rattle.demands.proofs.AnswerOrRefusal.{by-image-numbered}
 use Rattle.demands.proofs.Demand3.{value-to-utc, value-to-gps, image-to-utc, image-to-gps, host-to-utc, host-to-gps}
-use Rattle.demands.proofs.AlikeLists.{clash, changed-from, alike-lists}
-use Rattle.demands.proofs.OfAdded.{alike-of}
+use Rattle.pushing.proofs.AlikeLists.{clash, changed-from, alike-lists}
+use Rattle.pushing.proofs.OfAdded.{alike-of}
 
 -- what is told by lists holds of them
 holds : (es fs : List Entry) (x : Alike) → alike es fs ≡ answered x

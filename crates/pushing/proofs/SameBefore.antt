@@ -22,8 +22,8 @@ use Rattle.conversions.specs.Conversions.{E, countOr, utcAtOffset, gpsToUtc, fi
 use Rattle.conversions.proofs.SinceEpoch.{since, before}
 use Rattle.conversions.proofs.LeapSeconds.{LeapSeconds, leaps, counted, in-force}
 use Rattle.conversions.proofs.OnNaturals.{tai, Reads, to-utc, from-gps, from-E, a, b}
-use Rattle.demands.specs.SameBefore.{Below, gpsFrom, utcFrom, SameByLists, ChangesByLists}
-use Rattle.demands.proofs.BelowEntry.{offset-below, Within, within, one-more}
+use Rattle.pushing.specs.SameBefore.{Below, gpsFrom, utcFrom, SameByLists, ChangesByLists}
+use Rattle.pushing.proofs.BelowEntry.{offset-below, Within, within, one-more}
 
 -- ---- bounds on naturals
 below-difference : (n a b : ℕ) → Below n (subℕ a b) → n + b < a

@@ -18,7 +18,7 @@ use Rattle.counts.proofs.Fitting.{is-count, no-count}
 use Rattle.tables.specs.Entries.{Entry}
 use Rattle.conversions.specs.Conversions.{glonassEpoch, inNanos, utcToUnix, unixToUtc, gpsToUtc, utcToGps}
 use Rattle.conversions.specs.Shifted.{laterOf, shiftedToUtc, utcToShifted}
-use Rattle.demands.specs.SameBefore.{Below, SameByLists, OtherScales}
+use Rattle.pushing.specs.SameBefore.{Below, SameByLists, OtherScales}
 
 -- a step after what answers
 module _ {A B : Type 0} {f f′ : A → Outcome B} where

@@ -17,11 +17,11 @@ use Rattle.tables.proofs.Growing.{not-too-long}
 use Rattle.tables.proofs.Reached as list
 use Rattle.counts.specs.Units.{second, daySeconds}
 use Rattle.conversions.specs.Conversions.{E}
-use Rattle.demands.specs.SameBefore.{gpsFrom, utcFrom, SameByLists}
-use Rattle.demands.specs.AddedEntries.{after, joined, halfASecondOn, AddedEntries}
-use Rattle.demands.proofs.BelowEntry.{last-offset}
-use Rattle.demands.proofs.SameBefore.{same-before, changes-at}
-use Rattle.demands.proofs.OtherScales.{other-scales}
+use Rattle.pushing.specs.SameBefore.{gpsFrom, utcFrom, SameByLists}
+use Rattle.pushing.specs.AddedEntries.{after, joined, halfASecondOn, AddedEntries}
+use Rattle.pushing.proofs.BelowEntry.{last-offset}
+use Rattle.pushing.proofs.SameBefore.{same-before, changes-at}
+use Rattle.pushing.proofs.OtherScales.{other-scales}
 
 -- ---- a run leaves a list that begins with the one before
 pub runs : (es run : List Entry) → (rest : List Entry) × (after joined es run ≡ es ++ rest)

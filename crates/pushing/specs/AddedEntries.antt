@@ -12,7 +12,7 @@ use Rattle.scales.specs.Scales.{taiMinusGps, gpsMinusGalileo}
 use Rattle.tables.specs.Entries.{Entry, entry, regular, joinRefusal}
 use Rattle.conversions.specs.Conversions.{E, utcToGps}
 use Rattle.conversions.specs.Shifted.{utcToShifted}
-use Rattle.demands.specs.SameBefore.{Below, gpsFrom, utcFrom, SameByLists, ChangesByLists, OtherScales}
+use Rattle.pushing.specs.SameBefore.{Below, gpsFrom, utcFrom, SameByLists, ChangesByLists, OtherScales}
 
 -- what is left of a table after a run of entries, each joined as `join` says
 unfoldable pub after : {A : Type 0} → (A → Entry → ℕ × A) → A → List Entry → A

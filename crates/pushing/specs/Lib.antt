@@ -1,0 +1,4 @@
+pub mod SameBefore
+pub mod AddedEntries
+pub mod AlikeLists
+pub mod OfAdded

@@ -1,0 +1,1 @@
+// No function: the theorems of what an added entry may change (docs/PUSHING.md).
