@@ -1,10 +1,11 @@
 -- How long the parts of a report are, and the whole of it.
-use mathlib.Core.Path.{_≡_, sym, ap, _∙_}
+use mathlib.Core.Path.{_≡_, refl, sym, ap, _∙_}
 use mathlib.Core.Bool.{Bool, true, false, cond}
 use mathlib.Core.List.{List, [], _∷_, _++_, append-nil, append-assoc}
 use Prim.Native.Nat.{ℕ, _+_, _*_, _-_, _≤_}
 use native.Mathlib.Omega.{arith}
-use lib.Dec.{eqb}
+use borrow.Author.Tests.{ltb-false}
+use lib.Dec.{eqb, ltb}
 use lib.IntN.{natAbs}
 use lib.ListN.{length, getD, length-append, length-take}
 use Rattle.words.specs.Decimal.{decimal}
@@ -14,6 +15,7 @@ use Rattle.civil.specs.Fields.{fieldsAt}
 use Rattle.stamps.specs.Form.{written}
 use Rattle.tables.specs.Entries.{Entry, threshold, offset, currentOffset}
 use Rattle.tables.specs.Slots.{noExpiry}
+use Rattle.lines.specs.OutcomeLine.{PutsWithRoom}
 use Rattle.leaplist.specs.Report.{numberAnd, utcSecond, entryLine, entryLines, expiresWord, noneWord, expiryLine}
 use Rattle.leaplist.specs.Report.{droppedWord, tableReport}
 use Rattle.leaplist.specs.Report.{allText, quoted, atLine, startOfLine, place, refusalReport}
@@ -99,3 +101,12 @@ place-short k bs = by-test (eqb k 0)
 pub refusal-short : (number k : ℕ) (bs : List ℕ) → length (refusalReport number k bs) ≤ 102
 refusal-short number k bs =
     omega (arith, length-append (decimal number) (place k bs), decimal-length number, place-short k bs)
+
+-- ---- what is written has room, where no text is longer than the longest one
+pub made-fits : (longest : ℕ) (text out out′ : List ℕ) (made : ℕ) → length text ≤ longest
+    → PutsWithRoom longest text out out′ made → made ≤ length out
+made-fits longest text out out′ made short put = by-room (ltb (length out) longest) refl (put .0)
+  where
+    by-room : (t : Bool) → ltb (length out) longest ≡ t → made ≡ length (cond t [] text) → made ≤ length out
+    by-room true e is = omega (arith, is)
+    by-room false e is = omega (arith, is, ltb-false (length out) longest e, short)

@@ -1,10 +1,10 @@
 -- How long the report on a file is, and which report is due by what the reader answers.
 use mathlib.Core.Path.{_≡_, refl, sym, ap, subst, _∙_}
 use mathlib.Core.Bool.{Bool, true, false, cond, _&&_, true≢false}
-use mathlib.Core.List.{List, []}
+use mathlib.Core.List.{List}
 use Prim.Native.Nat.{ℕ, _≤_}
 use native.Mathlib.Omega.{arith}
-use borrow.Author.Tests.{ltb-false, leb-true, ne-eqb}
+use borrow.Author.Tests.{leb-true, ne-eqb}
 use lib.Dec.{eqb, leb, ltb}
 use lib.IntN.{pos}
 use lib.ListN.{length, length-take}
@@ -22,7 +22,6 @@ use Rattle.published.specs.LeapSecondsList.{firstMalformed, recordsIn, firstExp
 use Rattle.published.specs.LeapSecondsList.{Reading, listRead}
 use Rattle.published.specs.Places.{readingIn}
 use Rattle.published.specs.declared.ListAnswer.{ListAnswer}
-use Rattle.lines.specs.OutcomeLine.{PutsWithRoom}
 use Rattle.leaplist.specs.Report.{tableReport, refusalReport, reportOf, report}
 use Rattle.leaplist.proofs.Lengths.{table-short, refusal-short}
 
@@ -64,14 +63,6 @@ report-short bs = by-number (eqb (r .number) 0)
         let slots = length-take (r .table .len) (paired (r .table .thresholds) (r .table .offsets)) in
         table-short (entriesOf (r .table)) (r .table .expiry) (r .dropped) (omega (arith, few-entries bs, slots))
     by-number false = omega (arith, refusal-short (r .number) (r .line) bs)
-
--- what is written has room
-pub made-fits : (bs out out′ : List ℕ) (made : ℕ) → PutsWithRoom 4740 (report bs) out out′ made → made ≤ length out
-made-fits bs out out′ made put = by-room (ltb (length out) 4740) refl (put .0)
-  where
-    by-room : (t : Bool) → ltb (length out) 4740 ≡ t → made ≡ length (cond t [] (report bs)) → made ≤ length out
-    by-room true e is = omega (arith, is)
-    by-room false e is = omega (arith, is, ltb-false (length out) 4740 e, report-short bs)
 
 -- ---- the report by what the reader answers
 module _ (bs : List ℕ) (x : ListAnswer) (is : readingIn x ≡ listRead bs) where

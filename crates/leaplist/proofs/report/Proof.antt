@@ -3,7 +3,10 @@ use mathlib.Core.Path.{refl, ap}
 use borrow.Author.Needs.{needs}
 use borrow.Author.Tests.{lt-ltb, le-ltb}
 use denote.Ref.{now}
+use Rattle.refusals.specs.Number.{numberOf}
 use Rattle.tables.specs.Answers.{takenIn}
+use Rattle.leaplist.specs.Report.{refusalReport}
+use Rattle.leaplist.proofs.OneAfterOther.{from-start}
 use Rattle.leaplist.proofs.Reports.{few-in-answer, report-accepted, report-refused}
 use Rattle.leaplist.proofs.report as call
 
@@ -32,10 +35,13 @@ returns-3 c =
     let arm = put .before .before .before in
     let read = arm .before .before .before in
     let room = read .before .if1 .left in
-    let bs = now (read .before .before .before .before .args .bytes) in
+    let a = read .before .before .before .before .args in
+    let bs = now (a .bytes) in
     let told = arm .answer .given in
-    let is = report-refused bs (read .read .result) (read .read .ensures) (told .0 .0) (ap takenIn (told .1)) in
-    rw (le-ltb, is) (put .put-refusal .ensures)
+    let refusal = told .0 .0 in
+    let is = report-refused bs (read .read .result) (read .read .ensures) refusal (ap takenIn (told .1)) in
+    let line = refusalReport (numberOf refusal) (read .read .result .line) bs in
+    rw (le-ltb, is) (from-start (now (a .out)) line (put .put-refusal .ensures))
 
 -- returns, read-requires, enum-told, put-table-requires, enum-known-answer, put-refusal-requires, same-length, returns-2,
 -- same-length-2, returns-3

@@ -4,7 +4,8 @@ use native.Mathlib.Omega.{arith}
 use borrow.Author.Needs.{needs}
 use denote.Ref.{now}
 use Rattle.lines.specs.Places.{Reads}
-use Rattle.leaplist.proofs.Reports.{made-fits}
+use Rattle.leaplist.proofs.Lengths.{made-fits}
+use Rattle.leaplist.proofs.Reports.{report-short}
 use Rattle.leaplist.proofs.run as call
 
 part-report-end : call.Tie.Need-part-report-end
@@ -17,8 +18,8 @@ part-write-out-end : call.Tie.Need-part-write-out-end
 part-write-out-end c =
     let put = c .before .before .before in
     let read = put .before .before .before .before .before .before .before .before .before in
-    let out = now (read .before .before .before .before .args .out) in
-    omega (arith, made-fits _ out _ (put .report .result) (put .report .ensures))
+    let a = read .before .before .before .before .args in
+    omega (arith, made-fits 4740 _ (now (a .out)) _ (put .report .result) (report-short _) (put .report .ensures))
 
 -- read-whole-requires, enum-known-n, enum-told, same-length, returns, sub-report, part-report-start, part-report-end,
 -- report-requires, sub-write-out, part-write-out-start, part-write-out-end, write-out-requires, same-length-2,

@@ -170,13 +170,13 @@ fn put_place(out: &mut [u8], at: usize, line: usize, bytes: &[u8]) -> usize
     end + 1
 }
 
-// The refusal of a file.
-pub fn put_refusal(refusal: Refusal, line: usize, bytes: &[u8], out: &mut [u8]) -> usize
-    requires { ⌜ 102 ≤ length (now out) ⌝ }
-    ensures { λ r. ⌜ Puts (refusalReport (numberOf refusal) line (now (bytes .entry)))
+// The refusal of a file: 8 bytes for the word, at most 20 for the number, and 74 for the place.
+pub fn put_refusal(out: &mut [u8], at: usize, refusal: Refusal, line: usize, bytes: &[u8]) -> usize
+    requires { ⌜ at + 102 ≤ length (now out) ⌝ }
+    ensures { λ r. ⌜ PutsAt at (refusalReport (numberOf refusal) line (now (bytes .entry)))
         (now (out .entry)) (now (out .exit)) r ⌝ }
 {
-    put_bytes(out, 0, b"refused ");
-    let end = put_count(out, 8, refusal.number() as u64);
+    put_bytes(out, at, b"refused ");
+    let end = put_count(out, at + 8, refusal.number() as u64);
     put_place(out, end, line, bytes)
 }

@@ -1,5 +1,5 @@
-// Standard input read in blocks or whole, and standard output written. A program's loop over blocks is: `read_on`,
-// answer, `write_out`.
+// Standard input read in blocks, a file read whole, and standard output written. A program's loop over blocks is:
+// `read_on`, answer, `write_out`.
 // Left to reading: which bytes the C library's read and write move. No contract says that.
 ghost use Prim.Native.Nat.{_<_};
 ghost use lib.ListN.{length};
@@ -107,9 +107,8 @@ pub fn read_on(place: Place, block: &mut [u8]) -> Progress
     })
 }
 
-// Reads standard input until it ends or the block is full. The u64::MAX budget exists only so that the loop provably
-// ends.
-pub fn read_whole(block: &mut [u8]) -> Input
+// Reads an open file until it ends or the block is full. The u64::MAX budget exists only so that the loop provably ends.
+pub fn read_whole(fd: i32, block: &mut [u8]) -> Input
     ensures { λ r. ⌜ Reads (length (now (block .entry))) r ⌝ }
 {
     let mut at: usize = 0;
@@ -118,7 +117,7 @@ pub fn read_whole(block: &mut [u8]) -> Input
         if at == block.len() {
             return Input::Bytes(at);
         }
-        let got = libc::read(STDIN_FILENO, &mut block[at..]);
+        let got = libc::read(fd, &mut block[at..]);
         if got == 0 {
             return Input::Bytes(at);
         }

@@ -6,10 +6,10 @@ use lib.ListN.{length}
 use Rattle.lines.proofs.inner.streams.read_whole as call
 
 abbrev Inv-loop : call.Tie.InvT-loop
-Inv-loop block₀ at₀ left₀ block at left = (at ≤ length block₀) × (length block ≡ length block₀)
+Inv-loop fd block₀ at₀ left₀ block at left = (at ≤ length block₀) × (length block ≡ length block₀)
 
 abbrev μ-loop : call.Tie.MeasureT-loop
-μ-loop block₀ at₀ left₀ block at left = left
+μ-loop fd block₀ at₀ left₀ block at left = left
 
 -- loop-holds, same-length, returns, sub-read, part-read-start, part-read-end, read-requires, same-length-2, returns-2,
 -- failed-requires, same-length-3, returns-3, sub-count, part-count-start, part-count-end, count-requires, add-at,
