@@ -1,11 +1,11 @@
 -- The programs gpscivil and civilgps together: by civil readings for a line, and line by line for an input.
 use mathlib.Core.Path.{_≡_, refl, sym, ap, subst, _∙_}
-use mathlib.Core.Bool.{Bool, true, false, cond, not, _&&_, false≢true}
+use mathlib.Core.Bool.{Bool, true, false, cond, _&&_, false≢true}
 use mathlib.Core.List.{List, [], _∷_, _++_, map, append-assoc}
-use Prim.Native.Nat.{ℕ, _^_, _≤_, _<_}
+use Prim.Native.Nat.{ℕ, _^_, _<_}
 use native.Mathlib.Omega.{arith}
 use borrow.Author.Tests.{ne-eqb, ltb-true, leb-true}
-use lib.Dec.{eqb, ltb, leb}
+use lib.Dec.{ltb, leb}
 use Rattle.refusals.specs.Outcome.{Outcome, answered, refused, then, changed}
 use Rattle.refusals.proofs.Given.{no-refusal}
 use Rattle.refusals.proofs.Steps.{goes-on}

@@ -7,7 +7,7 @@ use native.Mathlib.Decide.{ℕ-discrete}
 use mir.Syntax.{w32}
 use mir.Facts.{toZ-ofZ}
 use borrow.Author.Needs.{needs}
-use borrow.Author.Tests.{le-leb, lt-leb, eq-eqb, ne-eqb}
+use borrow.Author.Tests.{le-leb, lt-leb, ne-eqb}
 use lib.Dec.{eqb, leb}
 use Rattle.calendar.specs.Calendar.{leap, daysIn}
 use Rattle.calendar.proofs.Months.{with-leap-day, no-more}
