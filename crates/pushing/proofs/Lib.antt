@@ -7,3 +7,4 @@ mod Forks
 pub mod AlikeLists
 pub mod OfAdded
 pub mod OfAlike
+pub mod Worked

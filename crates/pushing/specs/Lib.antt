@@ -2,3 +2,4 @@ pub mod SameBefore
 pub mod AddedEntries
 pub mod AlikeLists
 pub mod OfAdded
+pub mod Worked
