@@ -17,10 +17,10 @@ use Rattle.tables.proofs.Growing.{not-too-long}
 use Rattle.tables.proofs.Reached as list
 use Rattle.counts.specs.Units.{second, daySeconds}
 use Rattle.conversions.specs.Conversions.{E}
-use Rattle.pushing.specs.SameBefore.{gpsFrom, utcFrom, SameByLists}
+use Rattle.pushing.specs.SameBefore.{gpsFrom, utcFrom, SameByLists, ChangesByLists}
 use Rattle.pushing.specs.AddedEntries.{after, joined, halfASecondOn, AddedEntries}
 use Rattle.pushing.proofs.BelowEntry.{last-offset}
-use Rattle.pushing.proofs.SameBefore.{same-before, changes-at}
+use Rattle.pushing.proofs.SameBefore.{same-before, changes-from}
 use Rattle.pushing.proofs.OtherScales.{other-scales}
 
 -- ---- a run leaves a list that begins with the one before
@@ -42,6 +42,12 @@ begins es e run z =
     let (rest, is) = runs (es ++ e ∷ []) run in
     let joins : joined es e .1 ≡ es ++ e ∷ [] = rw (eq-eqb (joinRefusal es e) 0 z) in
     (rest, ap (λ (xs : List Entry). after joined xs run) joins ∙ is ∙ append-assoc es (e ∷ []) rest)
+
+-- the last entry of a run
+one-after : (es run : List Entry) (e : Entry) → after joined es (run ++ e ∷ []) ≡ joined (after joined es run) e .1
+unfolding after
+one-after es [] e = refl
+one-after es (f ∷ run) e = one-after (joined es f .1) run e
 
 -- ---- an entry that a regular list takes
 taken : (p : Entry) (ps : List Entry) (e : Entry) → joinRefusal (p ∷ ps) e ≡ 0
@@ -80,7 +86,10 @@ unfolding neighbours joinRefusal lastOr lookup inForce
 added-entries = record {
   same = same;
   same-scales = λ es e run r z. other-scales (gpsFrom e) (utcFrom e) es (after joined es (e ∷ run)) (same es e run r z);
-  sharp = λ es e r r′. changes-at es e [] r r′;
+  sharp = λ es run e r z r′.
+      let fs = after joined es run in
+      let is : after joined es (run ++ e ∷ []) ≡ fs ++ e ∷ [] = one-after es run e ∙ rw (eq-eqb (joinRefusal fs e) 0 z) in
+      subst (ChangesByLists (gpsFrom e) (utcFrom e) fs) (sym is) (changes-from fs e r (ap regular (sym is) ∙ r′));
   not-by-any-list = (
     refl,
     (

@@ -1,5 +1,5 @@
--- What an entry and those after it leave as it was: every lookup below its threshold. In a regular list it is one more
--- leap second from there on, for a day.
+-- What an entry and those after it leave as it was: every lookup below its threshold. In a list it is one more leap
+-- second from there on, until the next entry.
 use mathlib.Core.Path.{_≡_, refl, ap, _∙_}
 use mathlib.Core.Bool.{Bool, true, false, cond}
 use mathlib.Core.List.{List, [], _∷_, _++_}
@@ -10,7 +10,7 @@ use lib.Dec.{leb}
 use lib.ListN.{length}
 use lib.IntN.{pos}
 use Rattle.tables.specs.Entries.{Entry, threshold, offset, regular, day, lastOr, telling, inForce, lookup, offsetAt}
-use Rattle.tables.proofs.Reached.{Chain, reached, none-within-a-day}
+use Rattle.tables.proofs.Reached.{Chain, reached}
 
 -- below the threshold of e, whatever follows
 in-force-below : (p : Entry) (ps : List Entry) (e : Entry) (rest : List Entry) (t k : ℕ) → t < threshold e
@@ -69,9 +69,8 @@ within p (f ∷ fs) e rest c =
       goes-on = w .goes-on;
     }
 
--- one more leap second from its threshold on, for a day
-pub one-more : (p : Entry) (es : List Entry) (e : Entry) (rest : List Entry) (t : ℕ) → Within p es e rest
-    → t < threshold e + day → reached (es ++ e ∷ rest) t ≡ reached es t + (1 - (threshold e - t))
+-- one more leap second from its threshold on, until the next entry
+pub one-more : (es : List Entry) (e : Entry) (rest : List Entry) (t : ℕ) → reached rest t ≡ 0
+    → reached (es ++ e ∷ rest) t ≡ reached es t + (1 - (threshold e - t))
 unfolding reached
-one-more p es e rest t w l =
-    omega (arith, reached-joined es (e ∷ rest) t, none-within-a-day e rest t (w .goes-on) l)
+one-more es e rest t none = omega (arith, reached-joined es (e ∷ rest) t)

@@ -13,7 +13,6 @@ use lib.IntN.{ℤ, pos}
 use Rattle.refusals.specs.Outcome.{Outcome}
 use Rattle.refusals.proofs.Given.{one-answer}
 use Rattle.counts.specs.Units.{second}
-use Rattle.counts.proofs.Difference.{of-naturals}
 use Rattle.scales.specs.Scales.{taiMinusGps}
 use Rattle.tables.specs.Entries.{Entry, threshold, offset, regular, day}
 use Rattle.tables.proofs.Tested.{regular-tested}
@@ -23,7 +22,7 @@ use Rattle.alike.specs.Alike.{earlier, alike}
 use Rattle.pushing.specs.SameBefore.{gpsFrom, utcFrom}
 use Rattle.pushing.specs.AlikeLists.{AlikeBefore}
 use Rattle.pushing.proofs.SameBefore.{gps-below, utc-from, utc-below, natural, gps-same, utc-same, same-before}
-use Rattle.pushing.proofs.SameBefore.{changes-at, a-day-in, offset-is}
+use Rattle.pushing.proofs.SameBefore.{gps-from, gps-at-bound, utc-at-bound, a-day-in, offset-is}
 use Rattle.pushing.proofs.PartedLists.{GoesOn, Fork}
 use Rattle.pushing.proofs.PartedLists.{beginning-regular, some-common, by-threshold}
 
@@ -50,10 +49,10 @@ module _ (es : List Entry) (e : Entry) (rest : List Entry) (r : regular es ≡ t
   goes-past = record {
     same = same-before es e rest r (offset-is es e rest r r′) late;
     gps-differs = λ g u at fits there there′.
-        let (v, more, gives) = changes-at es e rest r r′ .to-utc g u at there in
+        let (v, more, gives) = gps-at-bound es e rest r r′ g u at there in
         omega (arith, more, one-answer (gpsToUtc (es ++ e ∷ rest) g) there′ gives);
     utc-differs = λ u g at fits back back′.
-        omega (arith, one-answer (utcToGps (es ++ e ∷ rest) u) back′ (changes-at es e rest r r′ .to-gps u g at fits back));
+        omega (arith, one-answer (utcToGps (es ++ e ∷ rest) u) back′ (utc-at-bound es e rest r r′ u g at fits back));
   }
 
 -- ---- two lists fork, the one first
@@ -85,14 +84,14 @@ module _ (p : List Entry) (e : Entry) (es : List Entry) (f : Entry) (fs : List E
           utc-of-other u fits (omega arith) ∙ sym (utc-of-one u fits below);
     };
     gps-differs = λ g u at fits there there′.
-        let here : tai g ≡ threshold e = natural g (threshold e) taiMinusGps (at ∙ of-naturals (threshold e) taiMinusGps) in
+        let here : tai g ≡ threshold e = natural g (threshold e) taiMinusGps (at ∙ gps-from e) in
         let common = sym (gps-of-other g (omega arith)) ∙ there′ in
-        let (v, more, gives) = changes-at p e es r r₁ .to-utc g u at common in
+        let (v, more, gives) = gps-at-bound p e es r r₁ g u at common in
         omega (arith, more, one-answer (gpsToUtc (p ++ e ∷ es) g) there gives);
     utc-differs = λ u g at fits back back′.
         let here = natural u (threshold e + E + second) (n * second) (at ∙ utc-from e n (offset-is p e es r r₁)) in
         let common = sym (utc-of-other u fits (omega arith)) ∙ back′ in
-        omega (arith, one-answer (utcToGps (p ++ e ∷ es) u) back (changes-at p e es r r₁ .to-gps u g at fits common));
+        omega (arith, one-answer (utcToGps (p ++ e ∷ es) u) back (utc-at-bound p e es r r₁ u g at fits common));
   }
 
 -- ---- wherever two regular lists part

@@ -12,7 +12,7 @@ use Rattle.tables.specs.Entries.{Entry, joinRefusal, regular}
 use Rattle.tables.specs.Slots.{entriesOf, validTable, ofValid, joinedTo, extensionRefusal, extended}
 use Rattle.tables.specs.declared.LeapTable.{LeapTable}
 use Rattle.tables.proofs.Checked.{good}
-use Rattle.tables.proofs.Extensions.{Sized, Grows, extension-grows, joined-sized}
+use Rattle.tables.proofs.Extensions.{Sized, Grows, extension-grows, made-sized, joined-sized}
 use Rattle.images.specs.Image.{tableIn}
 use Rattle.images.proofs.InSlots.{table-sized}
 use Rattle.conversions.specs.Conversions.{gpsToUtc, utcToGps}
@@ -98,6 +98,7 @@ module _ (t t′ : LeapTable) (e : Entry) (run : List Entry) (s : Sized t) (r : 
 
 pub added-of-calls : AddedOfCalls
 added-of-calls = record {
+  slots = λ es few. let s = made-sized es few in (s .thresholds, s .offsets);
   by-value = λ t e run (h, h′) r z.
       let t′ = after extended t (e ∷ run) in
       of-tables t t′ e run (record { thresholds = h; offsets = h′ }) r z refl

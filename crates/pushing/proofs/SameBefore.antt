@@ -2,7 +2,7 @@
 -- the event are below the threshold. From there on it is a second.
 use mathlib.Core.Path.{_≡_, refl, ap, _∙_, subst}
 use mathlib.Core.Bool.{Bool, true, false, cond, false≢true}
-use mathlib.Core.List.{List, _∷_, _++_}
+use mathlib.Core.List.{List, [], _∷_, _++_}
 use Prim.Native.Nat.{ℕ, _+_, _*_, _-_, _^_, _≤_, _<_}
 use native.Mathlib.Omega.{arith}
 use native.Mathlib.Decide.{decLt}
@@ -17,7 +17,7 @@ use Rattle.counts.proofs.Difference.{not-below, by-order, of-naturals, plus}
 use Rattle.scales.specs.Scales.{taiMinusGps}
 use Rattle.tables.specs.Entries.{Entry, threshold, offset, regular, day, offsetAt}
 use Rattle.tables.proofs.Reached as list
-use Rattle.tables.proofs.Reached.{Chain, reached}
+use Rattle.tables.proofs.Reached.{Chain, reached, none-within-a-day}
 use Rattle.conversions.specs.Conversions.{E, countOr, utcAtOffset, gpsToUtc, firstReading, secondReading, lastReading, utcToGps, gpsAtOffset}
 use Rattle.conversions.proofs.SinceEpoch.{since, before}
 use Rattle.conversions.proofs.LeapSeconds.{LeapSeconds, leaps, counted, in-force}
@@ -33,8 +33,12 @@ below-difference n a b =
 pub below-bound : (n a b : ℕ) → n + b < a → Below n (subℕ a b)
 below-bound n a b l = rw (not-below a b (omega arith)) (lt-ltb n (a - b) (omega arith))
 
+-- the GPS bound of an entry
+pub gps-from : (e : Entry) → gpsFrom e ≡ subℕ (threshold e) taiMinusGps
+gps-from e = of-naturals (threshold e) taiMinusGps
+
 pub gps-below : (e : Entry) (g : ℕ) → Below g (gpsFrom e) → tai g < threshold e
-gps-below e g h = below-difference g (threshold e) taiMinusGps (rw (of-naturals (threshold e) taiMinusGps) at h)
+gps-below e g h = below-difference g (threshold e) taiMinusGps (rw (gps-from e) at h)
 
 -- the UTC bound of an entry with offset n
 pub utc-from : (e : Entry) (n : ℕ) → offset e ≡ pos n → utcFrom e ≡ subℕ (threshold e + E + second) (n * second)
@@ -47,6 +51,22 @@ utc-from e n o =
 pub utc-below : (e : Entry) (n u : ℕ) → offset e ≡ pos n → Below u (utcFrom e)
     → u + n * second < threshold e + E + second
 utc-below e n u o h = below-difference u _ (n * second) (rw (utc-from e n o) at h)
+
+-- and the other way
+at-or-past : (n a b : ℕ) → (Below n (subℕ a b) → ⊥) → a ≤ n + b
+at-or-past n a b h = go (decLt (n + b) a)
+  where
+    go : Dec (n + b < a) → a ≤ n + b
+    go (yes l) = absurd (h (below-bound n a b l))
+    go (no l) = omega (arith, l)
+
+pub not-below-gps : (e : Entry) (g : ℕ) → (Below g (gpsFrom e) → ⊥) → threshold e ≤ tai g
+not-below-gps e g h =
+    at-or-past g (threshold e) taiMinusGps (λ l. h (rw (gps-from e) l))
+
+pub not-below-utc : (e : Entry) (n u : ℕ) → offset e ≡ pos n → (Below u (utcFrom e) → ⊥)
+    → threshold e + E + second ≤ u + n * second
+not-below-utc e n u o h = at-or-past u (threshold e + E + second) (n * second) (λ l. h (rw (utc-from e n o) l))
 
 -- a reading since E that is below t, or d
 reading-below : (d u j t : ℕ) → d < t → u + j < E + t → u < 2 ^ 64 → j ≤ E → countOr d (pos u -ℤ pos E +ℤ pos j) < t
@@ -121,10 +141,6 @@ natural n a b =
 counts : (t x m n : ℕ) → t ≤ x → n ≡ m + (1 - (t - x)) → n ≡ m + 1
 counts t x m n l is = omega arith
 
--- no more than are there, and no fewer than at t
-all-there : (m n l : ℕ) → m + 1 ≤ l + 1 → l ≤ m → n ≡ m + 1 → n ≡ l + 1
-all-there m n l few up is = omega arith
-
 module _ (es : List Entry) (e : Entry) (rest : List Entry) (r : regular es ≡ true) (r′ : regular (es ++ e ∷ rest) ≡ true) where
   abbrev longer : List Entry
   longer = es ++ e ∷ rest
@@ -156,9 +172,16 @@ module _ (es : List Entry) (e : Entry) (rest : List Entry) (r : regular es ≡ t
   abbrev k₂ : ℕ → ℕ
   k₂ = leaps longer
 
-  more : (t : ℕ) → t < threshold e + day → k₂ t ≡ k₁ t + (1 - (threshold e - t))
+  -- no entry is past e yet
+  abbrev Next : ℕ → Type 0
+  Next t = reached rest t ≡ 0
+
+  more : (t : ℕ) → Next t → k₂ t ≡ k₁ t + (1 - (threshold e - t))
   unfolding leaps
-  more t l = ap (λ (xs : List Entry). reached xs t) later-is ∙ one-more (whole .first) later e rest t placed l
+  more t none = ap (λ (xs : List Entry). reached xs t) later-is ∙ one-more later e rest t none
+
+  pub for-a-day : (t : ℕ) → t < threshold e + day → Next t
+  for-a-day t l = none-within-a-day e rest t (placed .goes-on) l
 
   all-reached : k₁ (threshold e) ≡ length later
   unfolding leaps
@@ -170,47 +193,85 @@ module _ (es : List Entry) (e : Entry) (rest : List Entry) (r : regular es ≡ t
   f₂ : LeapSeconds longer k₂
   f₂ = counted longer r′
 
-  pub gps-changes : (g u : ℕ) → tai g ≡ threshold e → gpsToUtc es g ≡ answered u
+  pub gps-changes : (g u : ℕ) → threshold e ≤ tai g → Next (tai g) → gpsToUtc es g ≡ answered u
       → (v : ℕ) × (u ≡ v + second) × (gpsToUtc longer g ≡ answered v)
-  gps-changes g u at there =
+  gps-changes g u past none there =
       let x = from-gps es k₁ f₁ g u there in
-      let here : k₁ (tai g) ≡ k₁ (threshold e) = ap k₁ at in
-      let step : k₂ (tai g) ≡ k₁ (tai g) + 1 = more (tai g) (omega arith) ∙ omega arith in
+      let step : k₂ (tai g) ≡ k₁ (tai g) + 1 = counts (threshold e) (tai g) (k₁ (tai g)) (k₂ (tai g)) past (more (tai g) none) in
       let few = f₁ .few (tai g) in
       let exact = x .exact in
       let y : Reads longer k₂ f₂ g (u - second) =
       record { tai-fits = x .tai-fits; utc-fits = omega (arith, x .utc-fits); exact = omega arith } in
       (u - second, omega arith, to-utc longer k₂ f₂ g (u - second) y)
 
-  pub utc-changes : (u g : ℕ) → u + (19 + length es) * second ≡ threshold e + E + second → u < 2 ^ 64
+  -- as many seconds before its threshold as there are later entries, all of them are reached
+  early : k₁ (threshold e - length later * second) ≡ length later
+  early =
+      let t = threshold e in
+      let x = t - length later * second in
+      let day-in = a-day-in in
+      let reached-all = all-reached in
+      let few = f₁ .few t in
+      let of-x = more x (for-a-day x (omega arith)) in
+      let of-t = more t (for-a-day t (omega arith)) in
+      let up = f₁ .rises x t (omega arith) in
+      let one = f₂ .one-in-a-day x t (omega arith) in
+      omega arith
+
+  -- and so they are from there on
+  all-past : (x : ℕ) → threshold e ≤ x + length later * second → k₁ x ≡ length later
+  all-past x l =
+      let none-more = few-later es r x in
+      let many = all in
+      let at-least = f₁ .rises (threshold e - length later * second) x (omega arith) in
+      omega (arith, early)
+
+  pub utc-changes : (u g : ℕ) → threshold e + E + second ≤ u + (19 + length es) * second → u < 2 ^ 64
+      → ((t : ℕ) → t ≤ tai (u - E) + (length later + 1) * second → Next t)
       → utcToGps es u ≡ answered g → utcToGps longer u ≡ answered (g + second)
-  utc-changes u g at fits back =
+  utc-changes u g l fits none back =
       let t = threshold e in
       let x = tai (u - E) in
       let y = b longer k₂ f₂ u in
       let day-in = a-day-in in
       let many = all in
-      let few = f₁ .few t in
-      let reached-all = all-reached in
-      let exact : x + length later * second ≡ t = omega arith in
-      let of-x = more x (omega arith) in
-      let of-t = more t (omega arith) in
-      let up = f₁ .rises x t (omega arith) in
-      let one = f₂ .one-in-a-day x t (omega arith) in
-      -- the first lookup tells the offset before the entry, or, where the entry is the second, that of the entry
-      let first-tells : k₁ x ≡ length later = omega arith in
-      let at-t : b es k₁ f₁ u ≡ t = omega arith in
-      let old : k₁ (b es k₁ f₁ u) ≡ length later = ap k₁ at-t ∙ reached-all in
+      let few = f₁ .few x in
+      let late : t ≤ x + length later * second = omega arith in
+      let first : k₁ x ≡ length later = all-past x late in
+      let old : k₁ (b es k₁ f₁ u) ≡ length later = all-past (b es k₁ f₁ u) (omega arith) in
+      let of-x = more x (none x (omega arith)) in
       let past : t ≤ y = omega arith in
       let new : k₂ y ≡ length later + 1
-      = all-there (k₁ y) (k₂ y) (length later) (omega (arith, few-later es r y)) (omega (arith, f₁ .rises t y past))
-      (counts t y (k₁ y) (k₂ y) past (more y (omega arith))) in
+      = counts t y (k₁ y) (k₂ y) past (more y (none y (omega arith))) ∙ ap (λ (n : ℕ). n + 1) (all-past y (omega arith)) in
       let is = one-answer (utcToGps es u) (from-E es k₁ f₁ u (omega arith) fits) back in
       from-E longer k₂ f₂ u (omega arith) fits ∙ ap answered (omega arith)
 
-  pub changes-at : ChangesByLists (gpsFrom e) (utcFrom e) es longer
-  changes-at = record {
-    to-utc = λ g u at. gps-changes g u (natural g (threshold e) taiMinusGps (at ∙ of-naturals (threshold e) taiMinusGps));
-    to-gps = λ u g at.
-        utc-changes u g (natural u (threshold e + E + second) ((19 + length es) * second) (at ∙ utc-from e (19 + length es) offset-is));
+  -- at the bounds themselves, whatever follows
+  pub gps-at-bound : (g u : ℕ) → pos g ≡ gpsFrom e → gpsToUtc es g ≡ answered u
+      → (v : ℕ) × (u ≡ v + second) × (gpsToUtc longer g ≡ answered v)
+  gps-at-bound g u at =
+      let here : tai g ≡ threshold e = natural g (threshold e) taiMinusGps (at ∙ gps-from e) in
+      gps-changes g u (omega arith) (for-a-day (tai g) (omega arith))
+
+  pub utc-at-bound : (u g : ℕ) → pos u ≡ utcFrom e → u < 2 ^ 64 → utcToGps es u ≡ answered g
+      → utcToGps longer u ≡ answered (g + second)
+  utc-at-bound u g at fits =
+      let many = all in
+      let day-in = a-day-in in
+      let few = f₁ .few (threshold e) in
+      let reached-all = all-reached in
+      let here = natural u (threshold e + E + second) ((19 + length es) * second) (at ∙ utc-from e (19 + length es) offset-is) in
+      utc-changes u g (omega arith) fits (λ t l. for-a-day t (omega arith))
+
+-- ---- the last entry of all
+module _ (es : List Entry) (e : Entry) (r : regular es ≡ true) (r′ : regular (es ++ e ∷ []) ≡ true) where
+  last : (t : ℕ) → reached [] t ≡ 0
+  unfolding reached
+  last t = refl
+
+  pub changes-from : ChangesByLists (gpsFrom e) (utcFrom e) es (es ++ e ∷ [])
+  changes-from = record {
+    to-utc = λ g u l. gps-changes es e [] r r′ g u (not-below-gps e g l) (last (tai g));
+    to-gps = λ u g fits l.
+        utc-changes es e [] r r′ u g (not-below-utc e (19 + length es) u (offset-is es e [] r r′) l) fits (λ t n. last t);
   }

@@ -51,9 +51,9 @@ pub record AddedEntries : Type 0 where
   -- nor in the other scales
   pub same-scales : (es : List Entry) (e : Entry) (run : List Entry) → regular es ≡ true → joinRefusal es e ≡ 0
       → OtherScales (gpsFrom e) (utcFrom e) es (after joined es (e ∷ run))
-  -- that is as far as it goes, where the entry leaves the list regular
-  pub sharp : (es : List Entry) (e : Entry) → regular es ≡ true → regular (es ++ e ∷ []) ≡ true
-      → ChangesByLists (gpsFrom e) (utcFrom e) es (es ++ e ∷ [])
+  -- the last entry of a run changes every answer from there on, if it is taken and leaves the list regular
+  pub sharp : (es run : List Entry) (e : Entry) → let fs = after joined es run in let gs = after joined es (run ++ e ∷ []) in
+      regular fs ≡ true → joinRefusal fs e ≡ 0 → regular gs ≡ true → ChangesByLists (gpsFrom e) (utcFrom e) fs gs
   -- a list that is not regular promises nothing: here a UTC count before the entry changes
   pub not-by-any-list : (joinRefusal fromOffset0 toOffset1 ≡ 0)
       × ((u : ℕ) × Below u (utcFrom toOffset1) × (utcToGps (fromOffset0 ++ toOffset1 ∷ []) u ≢ utcToGps fromOffset0 u))

@@ -2,13 +2,13 @@
 -- tables. It holds of whatever the contracts allow the calls to answer.
 use mathlib.Core.Path.{_≡_}
 use mathlib.Core.List.{List, _∷_}
-use Prim.Native.Nat.{ℕ, _^_, _<_}
+use Prim.Native.Nat.{ℕ, _^_, _≤_, _<_}
 use denote.Ref.{now}
 use lib.ListN.{length}
 use lib.IntN.{pos}
 use Rattle.refusals.specs.Outcome.{Outcome, answered, unless}
 use Rattle.tables.specs.Entries.{Entry}
-use Rattle.tables.specs.Slots.{extensionRefusal, extended}
+use Rattle.tables.specs.Slots.{tableOf, extensionRefusal, extended}
 use Rattle.tables.specs.declared.LeapTable.{LeapTable}
 use Rattle.images.specs.Image.{imageBytes, tableIn}
 use Rattle.alike.specs.Answers.{alikeIn}
@@ -33,12 +33,14 @@ OfAnswers There There′ Back Back′ Fact =
     → ((u : ℕ) → u < 2 ^ 64 → Back u (back u)) → ((u : ℕ) → u < 2 ^ 64 → Back′ u (back′ u))
     → Fact there there′ back back′
 
--- an array of a table has 64 slots, as its type says
+-- each array of a table has 64 slots, as its type says
 abbrev pub Slots64 : LeapTable → Type 0
 Slots64 t = (length (t .thresholds) ≡ 64) × (length (t .offsets) ≡ 64)
 
 -- a regular table takes an entry, and then a run of entries, of which some may be refused: before the entry nothing changes
 pub record AddedOfCalls : Type 0 where
+  -- every table that is built has them
+  pub slots : (es : List Entry) → length es ≤ 64 → Slots64 (tableOf es)
   pub by-value : (t : LeapTable) (e : Entry) (run : List Entry) → Slots64 t → Regular t → extensionRefusal t e ≡ 0
       → let t′ = after extended t (e ∷ run) in
       OfAnswers (ToUtcByValue t) (ToUtcByValue t′) (ToGpsByValue t) (ToGpsByValue t′) (SameBefore (gpsFrom e) (utcFrom e))

@@ -32,17 +32,18 @@ pub record SameBefore (gps utc : ℤ) (there there′ back back′ : ℕ → Out
   pub to-utc : (g : ℕ) → g < 2 ^ 64 → Below g gps → there′ g ≡ there g
   pub to-gps : (u : ℕ) → u < 2 ^ 64 → Below u utc → back′ u ≡ back u
 
--- and there, if it converts, an answer changes by one second
-pub record ChangesAt (gps utc : ℤ) (there there′ back back′ : ℕ → Outcome ℕ) : Type 0 where
-  pub to-utc : (g u : ℕ) → pos g ≡ gps → there g ≡ answered u → (v : ℕ) × (u ≡ v + second) × (there′ g ≡ answered v)
-  pub to-gps : (u g : ℕ) → pos u ≡ utc → u < 2 ^ 64 → back u ≡ answered g → back′ u ≡ answered (g + second)
+-- and from there on each answer changes by one second
+pub record ChangesFrom (gps utc : ℤ) (there there′ back back′ : ℕ → Outcome ℕ) : Type 0 where
+  pub to-utc : (g u : ℕ) → (Below g gps → ⊥) → there g ≡ answered u
+      → (v : ℕ) × (u ≡ v + second) × (there′ g ≡ answered v)
+  pub to-gps : (u g : ℕ) → u < 2 ^ 64 → (Below u utc → ⊥) → back u ≡ answered g → back′ u ≡ answered (g + second)
 
 -- ---- by lists of entries, and then by way of GPS and UTC
 abbrev pub SameByLists : ℤ → ℤ → List Entry → List Entry → Type 0
 SameByLists gps utc es fs = SameBefore gps utc (gpsToUtc es) (gpsToUtc fs) (utcToGps es) (utcToGps fs)
 
 abbrev pub ChangesByLists : ℤ → ℤ → List Entry → List Entry → Type 0
-ChangesByLists gps utc es fs = ChangesAt gps utc (gpsToUtc es) (gpsToUtc fs) (utcToGps es) (utcToGps fs)
+ChangesByLists gps utc es fs = ChangesFrom gps utc (gpsToUtc es) (gpsToUtc fs) (utcToGps es) (utcToGps fs)
 
 -- the conversions that follow: GLONASS and Unix time both ways; a scale whose counts are those of GPS less d, as Galileo
 -- and BeiDou, to UTC and to GLONASS, and back only where its epoch is not after the first GPS count
