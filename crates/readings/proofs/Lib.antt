@@ -1,6 +1,7 @@
 pub mod LaterEntries
 pub mod Days
 pub mod ByLookup
+mod FirstAndLast
 pub mod ReadBack
 pub mod StaleAt
 pub mod ByImage

@@ -8,17 +8,16 @@ use mathlib.Core.List.{List}
 use mathlib.Core.Option as option
 use Prim.Native.Nat.{ℕ, _+_, _*_, _-_, _/_, _%_, _^_, _≤_, _<_}
 use native.Mathlib.Omega.{arith}
-use native.Mathlib.Decide.{decLe, decLt, ℕ-discrete}
+use native.Mathlib.Decide.{decLt, ℕ-discrete}
 use borrow.Author.Tests.{lt-ltb, le-ltb, eq-eqb, ne-eqb}
 use lib.Dec.{ltb}
 use lib.IntN.{ℤ, pos, natAbs, _-ℤ_}
 use lib.Signed.{nonNeg}
 use Rattle.refusals.specs.Outcome.{Outcome, answered, refused, then, changed}
 use Rattle.refusals.proofs.Given.{one-answer, no-refusal}
-use Rattle.refusals.proofs.Steps.{goes-on}
-use Rattle.counts.specs.Exact.{countOf, up, down}
-use Rattle.counts.proofs.Difference.{not-below, below, of-naturals}
-use Rattle.counts.proofs.Fitting.{is-count, no-count}
+use Rattle.counts.specs.Exact.{countOf}
+use Rattle.counts.proofs.Difference.{not-below, of-naturals}
+use Rattle.counts.proofs.Fitting.{is-count}
 use Rattle.counts.specs.Units.{second}
 use Rattle.scales.specs.Scales.{taiMinusGps}
 use Rattle.calendar.specs.Calendar.{dateOf}
@@ -33,12 +32,13 @@ use Rattle.civil.proofs.CivilTheorems.{RealFields, count-back, fields-back, fie
 use Rattle.tables.specs.Entries.{Entry, regular, day, onDays}
 use Rattle.conversions.specs.Conversions.{E, gpsToUtc, utcToGps}
 use Rattle.conversions.proofs.LeapSeconds.{LeapSeconds, leaps, counted}
-use Rattle.conversions.proofs.OnNaturals.{tai, Reads, to-utc, from-gps, before-E, not-before-E, from-E, comes-back, apart, a, b}
+use Rattle.conversions.proofs.OnNaturals.{tai, Reads, to-utc, from-gps, before-E, not-before-E, from-E, a, b}
 use Rattle.readings.specs.Readings.{dayOfGps, readingOf, gpsToCivil, sameFields, utcToLater, readSo}
 use Rattle.readings.specs.Readings.{civilToGps}
 use Rattle.readings.proofs.LaterEntries.{both-tests, on-days}
 use Rattle.readings.proofs.Days.{DayOf, day-of}
-use Rattle.readings.proofs.ByLookup.{in-the-day, is-a-count, there-too, later-is, first-read}
+use Rattle.readings.proofs.ByLookup.{in-the-day, is-a-count, there-too, first-read}
+use Rattle.readings.proofs.FirstAndLast.{first-of-two, last-of-two, the-last}
 use Rattle.readings.proofs.Order.{same-fields}
 
 -- 23:59:60 on the day before that of a UTC count, with its nanoseconds
@@ -151,113 +151,6 @@ module _ (es : List Entry) (d : onDays es ≡ true) where
       go (refused m) h = let same : m ≡ n = cc in ap refused same
 
   -- ---- back
-  -- a count in the last second is the first that has its UTC count
-  first-of-two : (g u : ℕ) → Reads es k f g u → k (tai g) < k (tai g + second) → utcToGps es u ≡ answered g
-  first-of-two g u r more =
-      let from = not-before-E es k f g u r in
-      from-E es k f u from (r .utc-fits) ∙ ap answered (is from (decLe (k (tai g)) (k (a es k f u))))
-    where
-      is : E ≤ u → Dec (k (tai g) ≤ k (a es k f u)) → u - E + k (b es k f u) * second ≡ g
-      is from (yes h) =
-          let rise = f .rises (a es k f u) (tai g) (omega (arith, r .exact)) in
-          let there : k (b es k f u) ≡ k (tai g) = ap k (omega (arith, r .exact)) in
-          omega (arith, r .exact)
-      is from (no h) =
-          let few = f .few (tai g) in
-          let one = f .one-in-a-day (a es k f u) (tai g) (omega (arith, r .exact)) in
-          let rise = f .rises (b es k f u) (tai g) (omega (arith, r .exact, h)) in
-          let next = f .one-in-a-day (b es k f u) (tai g + second) (omega (arith, r .exact, h)) in
-          omega (arith, r .exact)
-
-  has-first : (g u : ℕ) → Reads es k f g u → (g₀ : ℕ) × (utcToGps es u ≡ answered g₀)
-  has-first g u r = (u - E + k (b es k f u) * second, from-E es k f u (not-before-E es k f g u r) (r .utc-fits))
-
-  -- an answer that is the last count with a UTC count
-  record Last (u : ℕ) (o : Outcome ℕ) : Type 0 where
-    count : ℕ
-    is : o ≡ answered count
-    reads : Reads es k f count u
-    last : (g : ℕ) → Reads es k f g u → g ≤ count
-
-  the-last : (u g₀ : ℕ) → u < 2 ^ 64 → utcToGps es u ≡ answered g₀ → Last u (utcToLater es u)
-  the-last u g₀ fits e =
-      let l = later-is es d u g₀ fits e in
-      record { count = l .count; is = rw e (ap answered (l .is)); reads = l .reads; last = l .last }
-
-  -- a count outside the last second is the last that has its UTC count
-  last-of-two : (g u : ℕ) → Reads es k f g u → k (tai g + second) ≤ k (tai g) → utcToLater es u ≡ answered g
-  last-of-two g u r none =
-      let (g₀, e) = has-first g u r in
-      let l = the-last u g₀ (r .utc-fits) e in
-      l .is ∙ ap answered (is l (decLt g (l .count)))
-    where
-      is : (l : Last u (utcToLater es u)) → Dec (g < l .count) → l .count ≡ g
-      is l (yes h) =
-          let (on, more) = apart es k f g (l .count) u r (l .reads) h in
-          let same : k (tai (l .count)) ≡ k (tai g + second) = ap k (omega arith) in
-          absurd (omega (arith, none))
-      is l (no h) = omega (arith, h, l .last g r)
-
-  -- so the last one is a second before the first that has the UTC count a second on: were there two of those, the first
-  -- of them would be in the last second before a threshold
-  down-a-second : (n : ℕ) → second ≤ n → n < 2 ^ 64 → down second n ≡ answered (n - second)
-  down-a-second n from fits =
-      ap countOf (of-naturals n second ∙ not-below n second from) ∙ is-count (n - second) (omega arith)
-
-  pub a-second-on : (u : ℕ) → u + second < 2 ^ 64 → then (utcToGps es (u + second)) (down second) ≡ utcToLater es u
-  a-second-on u fits = by-time (decLt (u + second) E) (decLt u E)
-    where
-      by-time : Dec (u + second < E) → Dec (u < E) → then (utcToGps es (u + second)) (down second) ≡ utcToLater es u
-      by-time (yes h) early = rw (before-E es k f (u + second) h, before-E es k f u (omega arith))
-      by-time (no h) (yes early) =
-          let g = u + second - E + k (b es k f (u + second)) * second in
-          let from : E ≤ u + second = omega (arith, h) in
-          let at-first : k (a es k f (u + second)) ≡ 0 = f .none-on-the-first-day (a es k f (u + second)) (omega arith) in
-          let there : k (b es k f (u + second)) ≡ 0 = f .none-on-the-first-day (b es k f (u + second)) (omega arith) in
-          goes-on (down second) (from-E es k f (u + second) from fits)
-          ∙ ap countOf (of-naturals g second ∙ below g second (omega arith))
-          ∙ sym (rw (before-E es k f u early))
-      by-time (no h) (no late) =
-          let g = u + second - E + k (b es k f (u + second)) * second in
-          let e = from-E es k f (u + second) (omega (arith, h)) fits in
-          let r = comes-back es k f (u + second) g fits e in
-          let from : second ≤ g = omega (arith, late) in
-          let on : tai (g - second) + second ≡ tai g = omega arith in
-          goes-on (down second) e ∙ down-a-second g from (omega (arith, r .tai-fits))
-          ∙ sym (by-more g e r from on (decLt (k (tai (g - second))) (k (tai g))))
-        where
-          by-more : (g : ℕ) → utcToGps es (u + second) ≡ answered g → Reads es k f g (u + second) → second ≤ g
-              → tai (g - second) + second ≡ tai g → Dec (k (tai (g - second)) < k (tai g))
-              → utcToLater es u ≡ answered (g - second)
-          by-more g e r from on (yes more) =
-              let one = f .one-in-a-day (tai (g - second)) (tai g) (omega arith) in
-              let too : Reads es k f (g - second) (u + second) = record {
-                tai-fits = omega (arith, r .tai-fits);
-                utc-fits = fits;
-                exact = omega (arith, r .exact);
-              } in
-              let same = one-answer (utcToGps es (u + second)) e (first-of-two (g - second) (u + second) too (rw on more)) in
-              absurd (omega (arith, from))
-          by-more g e r from on (no none) =
-              let rise = f .rises (tai (g - second)) (tai g) (omega arith) in
-              let same : k (tai (g - second)) ≡ k (tai g) = omega (arith, none) in
-              let before : Reads es k f (g - second) u = record {
-                tai-fits = omega (arith, r .tai-fits);
-                utc-fits = omega arith;
-                exact = omega (arith, r .exact);
-              } in
-              last-of-two (g - second) u before (rw on (omega arith))
-
-  pub by-next : (o : Outcome ℕ) (x : ℕ) → then o (up second) ≡ answered x
-      → then (then (then o (up second)) (utcToGps es)) (down second) ≡ then o (utcToLater es)
-  by-next (refused n) x e = absurd (no-refusal _ e refl)
-  by-next (answered u) x e = by-size (decLt (u + second) (2 ^ 64))
-    where
-      by-size : Dec (u + second < 2 ^ 64) → then (then (up second u) (utcToGps es)) (down second) ≡ utcToLater es u
-      by-size (yes h) =
-          ap (λ (o : Outcome ℕ). then (then o (utcToGps es)) (down second)) (is-count (u + second) h) ∙ a-second-on u h
-      by-size (no h) = absurd (no-refusal (up second u) e (no-count (u + second) (omega (arith, h))))
-
   module _ (c : CivilDateTime) where
     -- a field out of range is refused by its number
     pub out-of-range : (n : ℕ) → outOfRange c ≡ option.some n → civilToGps es c ≡ refused n
@@ -289,7 +182,7 @@ module _ (es : List Entry) (d : onDays es ≡ true) where
             let counted : countAt c ≡ answered u
             = ap countAt so ∙ count-of-sixty u (omega arith) (r .utc-fits) (midnight g u q h) in
             sixty (ap outOfRange so ∙ none-out (beforeDayOf u) (sixty-in-range u)) (ap (λ (x : CivilDateTime). x .second) so)
-            ∙ rw (counted, first-of-two g u r h, same-fields (readingOf es g) c .1 is)
+            ∙ rw (counted, first-of-two es d g u r h, same-fields (readingOf es g) c .1 is)
         go u q is (no h) =
             let r = from-gps es k f g u q in
             let not-more : k (tai g + second) ≤ k (tai g) = omega (arith, h) in
@@ -297,7 +190,7 @@ module _ (es : List Entry) (d : onDays es ≡ true) where
             let seconds : c .second ≡ u / second % 60 = ap (λ (x : CivilDateTime). x .second) so in
             let counted : countAt c ≡ answered u = ap countAt so ∙ count-back u (r .utc-fits) in
             other (ap outOfRange so ∙ none-out (fieldsOf u) (fields-are-real u .in-range)) (λ s. omega (arith, s))
-            ∙ rw counted (last-of-two g u r not-more)
+            ∙ rw counted (last-of-two es d g u r not-more)
 
     -- with a second of 60: the count that is read so, or 14
     sixty-read : outOfRange c ≡ option.none → c .second ≡ 60 → (g : ℕ) → civilToGps es c ≡ answered g
@@ -357,7 +250,7 @@ module _ (es : List Entry) (d : onDays es ≡ true) where
             by-first (refused m) p =
                 let stops : utcToLater es u ≡ refused m = rw p in absurd (no-refusal (utcToLater es u) h stops)
             by-first (answered g₀) p =
-                let l = the-last u g₀ (is-a-count c u q) p in
+                let l = the-last es d u g₀ (is-a-count c u q) p in
                 let same : l .count ≡ g = one-answer (utcToLater es u) (l .is) h in
                 record {
                   utc = u;
@@ -399,7 +292,7 @@ module _ (es : List Entry) (d : onDays es ≡ true) where
             by-time (yes h) = rw (before-E es k f u h)
             by-time (no h) =
                 let fits = is-a-count c u q in
-                let l = the-last u _ fits (from-E es k f u (omega (arith, h)) fits) in
+                let l = the-last es d u _ fits (from-E es k f u (omega (arith, h)) fits) in
                 absurd (none (l .count) (other r s ∙ rw q (l .is)))
 
     -- fields go to a count exactly if it is read as they are

@@ -13,7 +13,7 @@ use Rattle.conversions.specs.Conversions.{utcToGps}
 use Rattle.builtin.specs.Builtin.{builtin}
 use Rattle.builtin.proofs.Regular.{builtin-on-days}
 use Rattle.readings.proofs.ByLookup.{back-by}
-use Rattle.readings.proofs.ReadBack.{by-next}
+use Rattle.readings.proofs.FirstAndLast.{by-next}
 use Rattle.readings.proofs.by_builtin.count_of as call
 
 returns : call.Tie.Need-returns
