@@ -5,10 +5,12 @@ use mathlib.Core.List.{List, [], _∷_}
 use Prim.Native.Nat.{ℕ, zero, suc, _≤_, _<_}
 use native.Mathlib.Omega.{arith}
 use lib.ListN.{length, getD, drop}
-use lib.IntN.{ℤ, pos}
+use lib.IntN.{pos}
 use Rattle.tables.specs.Entries.{Entry, entry}
-use Rattle.tables.specs.Slots.{slotAt, slots}
-use Rattle.tables.proofs.FirstSlots.{slots-length, slot-is}
+use Rattle.tables.specs.Slots.{slotAt, entriesOf}
+use Rattle.tables.specs.declared.LeapTable.{LeapTable}
+use Rattle.tables.proofs.Checked.{Checked, length-is}
+use Rattle.tables.proofs.FirstSlots.{slot-is}
 use Rattle.alike.specs.Alike.{sameEntry, earlier, parting}
 use Rattle.alike.specs.declared.inner.Parting.{Parting}
 use Rattle.alike.specs.declared.inner.Parting.the-variants as parts
@@ -24,44 +26,46 @@ none-left [] (suc k) l = refl
 none-left (e ∷ es) zero l = absurd (omega arith)
 none-left (e ∷ es) (suc k) l = none-left es k (omega arith)
 
--- the slots of a table from i on
-module _ (xs : List ℕ) (zs : List ℤ) (n i : ℕ) (h : n ≤ length xs) (h′ : n ≤ length zs) where
-  from : i < n → drop i (slots xs zs n) ≡ slotAt xs zs i ∷ drop (suc i) (slots xs zs n)
+-- the entries of a table from i on
+module _ {t : LeapTable} (k : Checked t) (i : ℕ) where
+  from : i < t .len → drop i (entriesOf t) ≡ slotAt (t .thresholds) (t .offsets) i ∷ drop (suc i) (entriesOf t)
   from l =
       let d = entry 0 (pos 0) in
-      next-is (slots xs zs n) i d (omega (arith, slots-length xs zs n h h′))
-      ∙ ap (λ (e : Entry). e ∷ drop (suc i) (slots xs zs n)) (slot-is xs zs n i d l h h′)
+      next-is (entriesOf t) i d (omega (arith, length-is k))
+      ∙ ap (λ (e : Entry). e ∷ drop (suc i) (entriesOf t))
+      (slot-is (t .thresholds) (t .offsets) (t .len) i d l (k .in-thresholds) (k .in-offsets))
 
-  ended : n ≤ i → drop i (slots xs zs n) ≡ []
-  ended l = none-left (slots xs zs n) i (omega (arith, slots-length xs zs n h h′))
+  ended : t .len ≤ i → drop i (entriesOf t) ≡ []
+  ended l = none-left (entriesOf t) i (omega (arith, length-is k))
 
-module _ (xs : List ℕ) (zs : List ℤ) (n : ℕ) (ys : List ℕ) (ws : List ℤ) (m i : ℕ) (h : n ≤ length xs) (h′ : n ≤ length zs)
-    (g : m ≤ length ys) (g′ : m ≤ length ws) {at : Parting}
-    (left : parting (drop i (slots xs zs n)) (drop i (slots ys ws m)) ≡ at) where
-  pub one-goes-on : {e : Entry} → e ≡ slotAt xs zs i → i < n → m ≤ i → parts.Onward e ≡ at
+module _ {old new : LeapTable} (k : Checked old) (k′ : Checked new) (i : ℕ) {at : Parting}
+    (left : parting (drop i (entriesOf old)) (drop i (entriesOf new)) ≡ at) where
+  pub one-goes-on : {e : Entry} → e ≡ slotAt (old .thresholds) (old .offsets) i → i < old .len → new .len ≤ i
+      → parts.Onward e ≡ at
   unfolding parting
-  one-goes-on is l k = rw (from xs zs n i h h′ l, ended ys ws m i g g′ k, sym is) at left
+  one-goes-on is l m = rw (from k i l, ended k′ i m, sym is) at left
 
-  pub other-goes-on : {f : Entry} → f ≡ slotAt ys ws i → n ≤ i → i < m → parts.Onward f ≡ at
+  pub other-goes-on : {f : Entry} → f ≡ slotAt (new .thresholds) (new .offsets) i → old .len ≤ i → i < new .len
+      → parts.Onward f ≡ at
   unfolding parting
-  other-goes-on is k l = rw (ended xs zs n i h h′ k, from ys ws m i g g′ l, sym is) at left
+  other-goes-on is m l = rw (ended k i m, from k′ i l, sym is) at left
 
-  pub neither-goes-on : n ≤ i → m ≤ i → parts.Nowhere ≡ at
+  pub neither-goes-on : old .len ≤ i → new .len ≤ i → parts.Nowhere ≡ at
   unfolding parting
-  neither-goes-on k l = rw (ended xs zs n i h h′ k, ended ys ws m i g g′ l) at left
+  neither-goes-on l m = rw (ended k i l, ended k′ i m) at left
 
   -- an entry of each
-  module _ {e f : Entry} (is : e ≡ slotAt xs zs i) (is′ : f ≡ slotAt ys ws i) (l : i < n) (l′ : i < m)
-      {same : Bool} (told : same ≡ sameEntry e f) where
+  module _ {e f : Entry} (is : e ≡ slotAt (old .thresholds) (old .offsets) i) (is′ : f ≡ slotAt (new .thresholds) (new .offsets) i)
+      (l : i < old .len) (l′ : i < new .len) {same : Bool} (told : same ≡ sameEntry e f) where
     abbrev rest : Parting
-    rest = parting (drop (suc i) (slots xs zs n)) (drop (suc i) (slots ys ws m))
+    rest = parting (drop (suc i) (entriesOf old)) (drop (suc i) (entriesOf new))
 
     here : cond same rest (parts.Apart (earlier e f)) ≡ at
     unfolding parting
     here =
         sym (
-        (λ j. parting (from xs zs n i h h′ l j) (from ys ws m i g g′ l′ j))
-        ∙ (λ j. parting (sym is j ∷ drop (suc i) (slots xs zs n)) (sym is′ j ∷ drop (suc i) (slots ys ws m)))
+        (λ j. parting (from k i l j) (from k′ i l′ j))
+        ∙ (λ j. parting (sym is j ∷ drop (suc i) (entriesOf old)) (sym is′ j ∷ drop (suc i) (entriesOf new)))
         ∙ ap (λ (b : Bool). cond b rest (parts.Apart (earlier e f))) (sym told))
         ∙ left
 

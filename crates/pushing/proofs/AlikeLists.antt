@@ -26,14 +26,11 @@ use Rattle.alike.specs.declared.inner.Parting.the-variants as parts
 use Rattle.pushing.specs.SameBefore.{gpsFrom, utcFrom, OtherScales}
 use Rattle.pushing.specs.AlikeLists.{Extends, AlikeLists}
 use Rattle.pushing.proofs.SameBefore.{below-bound, utc-from}
-use Rattle.pushing.proofs.OtherScales.{other-scales}
-use Rattle.pushing.proofs.PartedLists.{nowhere, onward, GoesOn, apart, same-parts, extended-parts, extending-parts}
+use Rattle.pushing.proofs.OtherScales.{the-count, other-scales}
+use Rattle.pushing.proofs.PartedLists.{clash, nowhere, onward, GoesOn, apart, same-parts, extended-parts, extending-parts}
 use Rattle.pushing.proofs.Forks.{AlikeBy, Parts, at-onward, at-fork}
 
 -- ---- what is told is what the definition says
-pub clash : {A : Type 0} → _≡_ {A = ℕ} 0 1 → A
-clash z = absurd (omega arith)
-
 -- both steps of an answer, and the step of a refusal
 two-steps : {A B : Type 0} (o : Outcome A) (f : A → Outcome B) {b : B} → then o f ≡ answered b
     → (a : A) × (o ≡ answered a) × (f a ≡ answered b)
@@ -45,22 +42,14 @@ pub changed-from : {A B : Type 0} (f : A → B) (o : Outcome A) {b : B} → chan
 changed-from f (answered a) e = (a, refl, cc)
 changed-from f (refused k) e = clash (cc)
 
-the-count : (z : ℤ) {k : ℕ} → countOf z ≡ answered k → pos k ≡ z
-the-count (negsuc j) e = clash (cc)
-the-count (pos j) {k} e = go (decLt j (2 ^ 64))
-  where
-    go : Dec (j < 2 ^ 64) → pos k ≡ pos j
-    go (yes h) = ap pos (one-answer (countOf (pos j)) e (is-count j h))
-    go (no h) = absurd (no-refusal _ e (no-count j (omega (arith, h))))
-
 counts-are : (x : Entry) (c : Counts) → countsFrom x ≡ answered c → (pos (c .gps) ≡ gpsFrom x) × (pos (c .utc) ≡ utcFrom x)
 counts-are x c e =
     let (g, gives-g, rest) = two-steps (down taiMinusGps (threshold x)) _ e in
     let (u, gives-u, is) = changed-from (counts g) (then (countOf (event x)) (up second)) rest in
     let (v, gives-v, past) = two-steps (countOf (event x)) (up second) gives-u in
-    let at-g : pos g ≡ gpsFrom x = the-count (gpsFrom x) gives-g in
-    let at-v : pos v ≡ event x = the-count (event x) gives-v in
-    let at-u : pos u ≡ pos (v + second) = the-count (pos (v + second)) past in (
+    let at-g : pos g ≡ gpsFrom x = the-count (gpsFrom x) gives-g .0 in
+    let at-v : pos v ≡ event x = the-count (event x) gives-v .0 in
+    let at-u : pos u ≡ pos (v + second) = the-count (pos (v + second)) past .0 in (
       sym (ap (λ (y : Counts). pos (y .gps)) is) ∙ at-g,
       sym (ap (λ (y : Counts). pos (y .utc)) is) ∙ at-u ∙ ap (λ (z : ℤ). z +ℤ pos second) at-v,
     )

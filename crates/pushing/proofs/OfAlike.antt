@@ -24,7 +24,8 @@ use Rattle.plaitgate.specs.Tables.{AlikeTold, alikeAs, inNumbers}
 use Rattle.pushing.specs.OfAdded.{OfAnswers, Holds, AlikeOfCalls}
 use Rattle.demands.proofs.AnswerOrRefusal.{by-image-numbered}
 use Rattle.demands.proofs.Demand3.{value-to-utc, value-to-gps, image-to-utc, image-to-gps, host-to-utc, host-to-gps}
-use Rattle.pushing.proofs.AlikeLists.{clash, changed-from, alike-lists}
+use Rattle.pushing.proofs.AlikeLists.{changed-from, alike-lists}
+use Rattle.pushing.proofs.PartedLists.{clash}
 use Rattle.pushing.proofs.OfAdded.{alike-of}
 
 -- what is told by lists holds of them

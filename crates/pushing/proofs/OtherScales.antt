@@ -26,13 +26,14 @@ module _ {A B : Type 0} {f f′ : A → Outcome B} where
   stepwise (answered x) h = h x refl
   stepwise (refused k) h = refl
 
-count-fits : (z : ℤ) {u : ℕ} → countOf z ≡ answered u → u < 2 ^ 64
-count-fits (negsuc k) e = absurd (no-refusal _ e refl)
-count-fits (pos k) {u} e = go (decLt k (2 ^ 64))
+-- what is answered as a count is the exact result, and has 64 bits
+pub the-count : (z : ℤ) {k : ℕ} → countOf z ≡ answered k → (pos k ≡ z) × (k < 2 ^ 64)
+the-count (negsuc j) e = absurd (no-refusal _ e refl)
+the-count (pos j) {k} e = go (decLt j (2 ^ 64))
   where
-    go : Dec (k < 2 ^ 64) → u < 2 ^ 64
-    go (yes h) = let is = one-answer (countOf (pos k)) (is-count k h) e in omega arith
-    go (no h) = absurd (no-refusal _ e (no-count k (omega (arith, h))))
+    go : Dec (j < 2 ^ 64) → (pos k ≡ pos j) × (k < 2 ^ 64)
+    go (yes h) = let is = one-answer (countOf (pos j)) e (is-count j h) in (ap pos is, omega arith)
+    go (no h) = absurd (no-refusal _ e (no-count j (omega (arith, h))))
 
 -- and after a step up, which is taken where it gives a count
 after-up : (f f′ : ℕ → Outcome ℕ) (d n : ℕ) → (n + d < 2 ^ 64 → f′ (n + d) ≡ f (n + d)) → then (up d n) f′ ≡ then (up d n) f
@@ -62,7 +63,7 @@ module _ (gps utc : ℤ) (es fs : List Entry) (s : SameByLists gps utc es fs) wh
     glonass-to-gps = λ n l. after-up (utcToGps es) (utcToGps fs) glonassEpoch n (λ fits. s .to-gps (n + glonassEpoch) fits l);
     gps-to-unix = λ g fits l. ap (changed utcToUnix) (s .to-utc g fits l);
     unix-to-gps = λ t l.
-        stepwise {f = utcToGps es} {f′ = utcToGps fs} (unixToUtc t) (λ u e. s .to-gps u (count-fits (inNanos (t -ℤ pos unixOffset)) e) (l u e));
+        stepwise {f = utcToGps es} {f′ = utcToGps fs} (unixToUtc t) (λ u e. s .to-gps u (the-count (inNanos (t -ℤ pos unixOffset)) e .1) (l u e));
     shifted-to-utc = to-utc;
     shifted-to-glonass = λ d n l. ap (λ (o : Outcome ℕ). then o (down glonassEpoch)) (to-utc d n l);
     utc-to-shifted = back;

@@ -26,28 +26,29 @@ is-same e f h =
 same-as : (e f : Entry) → threshold e ≡ threshold f → offset e ≡ offset f → sameEntry e f ≡ true
 same-as e f t n = rw (eq-eqb _ _ t, equal-yes _ _ n)
 
-no : {A : Type 0} → _≡_ {A = ℕ} 0 1 → A
-no z = absurd (omega arith)
+-- two different constructors
+pub clash : {A : Type 0} → _≡_ {A = ℕ} 0 1 → A
+clash z = absurd (omega arith)
 
 -- ---- how two lists begin
 pub nowhere : (es fs : List Entry) → parting es fs ≡ parts.Nowhere → es ≡ fs
 unfolding parting
 nowhere [] [] h = refl
-nowhere [] (f ∷ fs) h = no (cc)
-nowhere (e ∷ es) [] h = no (cc)
+nowhere [] (f ∷ fs) h = clash (cc)
+nowhere (e ∷ es) [] h = clash (cc)
 nowhere (e ∷ es) (f ∷ fs) h = go (sameEntry e f) refl (nowhere es fs) h
   where
     go : (b : Bool) → sameEntry e f ≡ b → (parting es fs ≡ parts.Nowhere → es ≡ fs)
         → cond b (parting es fs) (parts.Apart (earlier e f)) ≡ parts.Nowhere → e ∷ es ≡ f ∷ fs
     go true s rest h = λ i. is-same e f s i ∷ rest h i
-    go false s rest h = no (cc)
+    go false s rest h = clash (cc)
 
 abbrev pub GoesOn : List Entry → List Entry → Entry → Type 0
 GoesOn es fs e = (rest : List Entry) × (fs ≡ es ++ e ∷ rest)
 
 pub onward : (es fs : List Entry) (x : Entry) → parting es fs ≡ parts.Onward x → GoesOn es fs x ⊎ GoesOn fs es x
 unfolding parting
-onward [] [] x h = no (cc)
+onward [] [] x h = clash (cc)
 onward [] (f ∷ fs) x h = let is : f ≡ x = cc in inl (fs, ap (λ (g : Entry). g ∷ fs) is)
 onward (e ∷ es) [] x h = let is : e ≡ x = cc in inr (es, ap (λ (g : Entry). g ∷ es) is)
 onward (e ∷ es) (f ∷ fs) x h = go (sameEntry e f) refl (onward es fs x) h
@@ -60,7 +61,7 @@ onward (e ∷ es) (f ∷ fs) x h = go (sameEntry e f) refl (onward es fs x) h
         → cond b (parting es fs) (parts.Apart (earlier e f)) ≡ parts.Onward x
         → GoesOn (e ∷ es) (f ∷ fs) x ⊎ GoesOn (f ∷ fs) (e ∷ es) x
     go true s rest h = more (is-same e f s) (rest h)
-    go false s rest h = no (cc)
+    go false s rest h = clash (cc)
 
 -- two lists that begin alike and then differ
 pub record Fork (es fs : List Entry) (x : Entry) : Type 0 where
@@ -76,9 +77,9 @@ pub record Fork (es fs : List Entry) (x : Entry) : Type 0 where
 
 pub apart : (es fs : List Entry) (x : Entry) → parting es fs ≡ parts.Apart x → Fork es fs x
 unfolding parting
-apart [] [] x h = no (cc)
-apart [] (f ∷ fs) x h = no (cc)
-apart (e ∷ es) [] x h = no (cc)
+apart [] [] x h = clash (cc)
+apart [] (f ∷ fs) x h = clash (cc)
+apart (e ∷ es) [] x h = clash (cc)
 apart (e ∷ es) (f ∷ fs) x h = go (sameEntry e f) refl (apart es fs x) h
   where
     go : (b : Bool) → sameEntry e f ≡ b → (parting es fs ≡ parts.Apart x → Fork es fs x)
@@ -126,7 +127,7 @@ extending-parts (f ∷ fs) e rest = rw (same-as f f refl refl) (extending-parts 
 
 -- ---- two regular lists begin alike, and what they have in common is regular
 stays : (es fs : List Entry) (k : ℕ) {e : Entry} → getElem? es k ≡ option.some e → getElem? (es ++ fs) k ≡ option.some e
-stays [] fs k h = no (cc)
+stays [] fs k h = clash (cc)
 stays (g ∷ es) fs zero h = h
 stays (g ∷ es) fs (suc k) h = stays es fs k h
 

@@ -48,9 +48,7 @@ returns c =
     let s = c .before in
     let at = s .before .before .before .before .before .before in
     let start = at .before .before in
-    let o = valid-old start in
-    let w = valid-new start in
-    one-goes-on _ _ _ _ _ _ _ (o .in-thresholds) (o .in-offsets) (w .in-thresholds) (w .in-offsets) (at .before .loop .inv)
+    one-goes-on (valid-old start) (valid-new start) _ (at .before .loop .inv)
     (s .slot .ensures) (at .loop-test .taken) (c .if1 .taken)
 
 returns-2 : call.Tie.Need-returns-2 Inv-loop μ-loop
@@ -61,10 +59,8 @@ returns-2 c =
     let s = e .before in
     let at = s .before .before .before .before .before .before in
     let start = at .before .before in
-    let o = valid-old start in
-    let w = valid-new start in
     ap parts.Apart (c .earlier .ensures)
-    ∙ parts-here _ _ _ _ _ _ _ (o .in-thresholds) (o .in-offsets) (w .in-thresholds) (w .in-offsets) (at .before .loop .inv)
+    ∙ parts-here (valid-old start) (valid-new start) _ (at .before .loop .inv)
     (s .slot .ensures) (other .slot2 .ensures) (at .loop-test .taken) (e .if1 .left) (t .same-entry .ensures)
     (not-true _ (c .before .if2 .taken))
 
@@ -76,10 +72,8 @@ loop-again c =
     let s = e .before in
     let at = s .before .before .before .before .before .before in
     let start = at .before .before in
-    let o = valid-old start in
-    let w = valid-new start in
     rw add-one
-    (goes-on _ _ _ _ _ _ _ (o .in-thresholds) (o .in-offsets) (w .in-thresholds) (w .in-offsets) (at .before .loop .inv)
+    (goes-on (valid-old start) (valid-new start) _ (at .before .loop .inv)
     (s .slot .ensures) (other .slot2 .ensures) (at .loop-test .taken) (e .if1 .left) (t .same-entry .ensures)
     (not-false _ (c .if2 .left)))
 
@@ -97,18 +91,14 @@ returns-3 c =
     let t = c .before .before .before .before .before .before in
     let at = t .before in
     let start = at .before .before in
-    let o = valid-old start in
-    let w = valid-new start in
-    other-goes-on _ _ _ _ _ _ _ (o .in-thresholds) (o .in-offsets) (w .in-thresholds) (w .in-offsets) (at .before .loop .inv)
+    other-goes-on (valid-old start) (valid-new start) _ (at .before .loop .inv)
     (c .slot3 .ensures) (at .loop-test .left) (t .if3 .taken)
 
 returns-4 : call.Tie.Need-returns-4 Inv-loop μ-loop
 returns-4 c =
     let at = c .before in
     let start = at .before .before in
-    let o = valid-old start in
-    let w = valid-new start in
-    neither-goes-on _ _ _ _ _ _ _ (o .in-thresholds) (o .in-offsets) (w .in-thresholds) (w .in-offsets) (at .before .loop .inv)
+    neither-goes-on (valid-old start) (valid-new start) _ (at .before .loop .inv)
     (at .loop-test .left) (c .if3 .left)
 
 pub parting-of-spec : {M : Type 1} → call.Statement.statement M
