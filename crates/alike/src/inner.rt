@@ -17,14 +17,14 @@ use tables::inner::{is_regular, slot};
 use tables::{LeapEntry, LeapTable};
 
 // Where two lists part: nowhere, at the first entry that one has after the other, or at the earlier of two that differ.
-#[derive(Drop)]
+#[derive(Clone, Copy)]
 pub enum Parting {
     Nowhere,
     Onward(LeapEntry),
     Apart(LeapEntry),
 }
 
-#[derive(Drop)]
+#[derive(Clone, Copy)]
 pub enum CountsAnswer {
     Counts(Counts),
     Refused(Refusal),

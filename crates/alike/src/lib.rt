@@ -1,5 +1,7 @@
 // How far two tables convert alike, for a station that is to be given a new one. An entry joined to a regular table changes
 // no answer before its threshold; docs/PUSHING.md says what is promised. gnss-time has no such call.
+#![tactic(auto)]
+
 pub mod by_image;
 pub mod by_value;
 pub mod inner;
@@ -7,14 +9,14 @@ pub mod inner;
 use refusals::Refusal;
 
 // The first counts whose conversions may differ, in nanoseconds: a GPS count to UTC, and a UTC count to GPS.
-#[derive(Drop)]
+#[derive(Clone, Copy)]
 pub struct Counts {
     pub gps: u64,
     pub utc: u64,
 }
 
 // How far two tables convert alike.
-#[derive(Drop)]
+#[derive(Clone, Copy)]
 pub enum Alike {
     // they have the same entries
     Everywhere,
@@ -26,7 +28,7 @@ pub enum Alike {
     Irregular,
 }
 
-#[derive(Drop)]
+#[derive(Clone, Copy)]
 pub enum AlikeAnswer {
     Told(Alike),
     Refused(Refusal),

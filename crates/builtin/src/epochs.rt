@@ -5,7 +5,7 @@ ghost use Rattle.builtin.specs.Events.{leap_seconds_at};
 use calendar::epochs;
 
 // The epochs that the table reaches.
-#[derive(Drop)]
+#[derive(Clone, Copy)]
 pub enum ScaleEpoch {
     Gps,
     Glonass,

@@ -17,7 +17,7 @@ use refusals::Refusal;
 use tables::LeapEntry;
 
 // An event's entry, or why there is none.
-#[derive(Drop)]
+#[derive(Clone, Copy)]
 pub enum EventAnswer {
     Entry(LeapEntry),
     Refused(Refusal),

@@ -1,5 +1,7 @@
 // The built-in table, after tables/leap_seconds.rs: (0, 19), and an entry for each of the eighteen inserted seconds
 // since the GPS epoch (IERS Bulletin C). It is proved valid, so its calls test no table.
+#![tactic(auto)]
+
 pub mod epochs;
 pub mod events;
 pub mod inner;

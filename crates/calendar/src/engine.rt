@@ -44,14 +44,14 @@ const MONTH_STARTS: [u64; 12] = [0, 31, 61, 92, 122, 153, 184, 214, 245, 275, 30
 const LEAP_YEAR_DAYS: u64 = 366;
 
 // A year that begins in March, and a day of it from 0 on.
-#[derive(Drop)]
+#[derive(Clone, Copy)]
 struct YearDay {
     year: u64,
     day: u64,
 }
 
 // A year that begins in March, and a month of it from 0 on.
-#[derive(Drop)]
+#[derive(Clone, Copy)]
 struct MarchMonth {
     year: u64,
     month: u64,

@@ -77,7 +77,7 @@ pub const LEAP_SECONDS_AT_GALILEO_EPOCH: i64 = 32;
 
 pub const LEAP_SECONDS_AT_BEIDOU_EPOCH: i64 = 33;
 
-#[derive(Drop)]
+#[derive(Clone, Copy)]
 pub enum Epoch {
     Tai,
     Unix,
@@ -105,7 +105,7 @@ impl Epoch {
 }
 
 // The lengths that are named above and in counts.
-#[derive(Drop)]
+#[derive(Clone, Copy)]
 pub enum EpochSpan {
     DaysUnixToGps,
     DaysGpsToGlonass,

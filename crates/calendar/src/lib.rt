@@ -1,5 +1,7 @@
 // Civil dates of the Gregorian calendar, the days between them, and the epochs of the time scales: epoch.rs, and the
 // two directions of civil.rs. Any field is taken; real dates follow the calendar, the rest the formula.
+#![tactic(auto)]
+
 pub mod engine;
 pub mod epochs;
 
@@ -26,7 +28,7 @@ const MOST_DAYS: i64 = 106_751;
 const MOST_DAYS_BACK: i64 = -MOST_DAYS;
 
 // A date, with any fields.
-#[derive(Drop)]
+#[derive(Clone, Copy)]
 pub struct CivilDate {
     pub year: i32,
     pub month: u8,
@@ -34,7 +36,7 @@ pub struct CivilDate {
 }
 
 // A number of days, seconds or nanoseconds, or why there is none.
-#[derive(Drop)]
+#[derive(Clone, Copy)]
 pub enum SpanAnswer {
     Span(i64),
     Refused(Refusal),

@@ -1,6 +1,8 @@
 // Civil dates and times of day in UTC, and their counts: civil.rs. No field is checked on the way to a count; a real
 // date follows the calendar, any other the formula, and a time of day only its sum. Which fields exist is told apart from
 // it, by `check`.
+#![tactic(auto)]
+
 pub mod inner;
 
 ghost use Rattle.std.specs.Prelude.{◌≡◌, pos, ◌-ℤ◌, eqb, drop};
@@ -26,7 +28,7 @@ const UTC_EPOCH_DAY: i64 = 730;
 const LAST_UNIX_DAY: i64 = UTC_EPOCH_DAY + 213_503;
 
 // A date and a time of day, with any fields.
-#[derive(Drop)]
+#[derive(Clone, Copy)]
 pub struct CivilDateTime {
     pub year: i32,
     pub month: u8,
@@ -38,7 +40,7 @@ pub struct CivilDateTime {
 }
 
 // Whether fields exist, or why the first that is out of range does not.
-#[derive(Drop)]
+#[derive(Clone, Copy)]
 pub enum FieldCheck {
     InRange,
     Refused(Refusal),

@@ -1,4 +1,6 @@
 // Reads UTC dates and times, one a line, and writes each one's GPS count by the built-in table, or why there is none.
+#![tactic(auto)]
+
 ghost use Rattle.std.specs.Prelude.{◌≡◌, ◌≤◌, ◌<◌, length, take};
 ghost use Rattle.lines.specs.Pieces.{AnswersBlock};
 ghost use Rattle.lines.specs.Places.{Within, Stands};

@@ -22,7 +22,7 @@ use scales::utc::Utc;
 use tables::LeapTable;
 
 // An answer by a table, and whether the table is stale.
-#[derive(Drop)]
+#[derive(Clone, Copy)]
 pub struct DatedBeidou {
     pub answer: BeidouAnswer,
     pub stale: bool,

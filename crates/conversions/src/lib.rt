@@ -2,6 +2,8 @@
 // by a fixed number of seconds have a file each.
 // Every call with a table refuses an invalid one with 8 before anything else, and tells whether the table is stale at
 // the TAI reading that was looked up last.
+#![tactic(auto)]
+
 pub mod inner;
 // shifted scales, by tools/write-scales
 pub mod beidou;
@@ -29,14 +31,14 @@ use scales::utc::{Utc, UtcAnswer};
 use tables::LeapTable;
 
 // Unix seconds, or why there are none.
-#[derive(Drop)]
+#[derive(Clone, Copy)]
 pub enum UnixAnswer {
     Seconds(i64),
     Refused(Refusal),
 }
 
 // An answer by a table, and whether the table is stale.
-#[derive(Drop)]
+#[derive(Clone, Copy)]
 pub struct DatedGps {
     pub answer: GpsAnswer,
     pub stale: bool,
@@ -54,7 +56,7 @@ impl DatedGps {
     }
 }
 
-#[derive(Drop)]
+#[derive(Clone, Copy)]
 pub struct DatedUtc {
     pub answer: UtcAnswer,
     pub stale: bool,
@@ -72,7 +74,7 @@ impl DatedUtc {
     }
 }
 
-#[derive(Drop)]
+#[derive(Clone, Copy)]
 pub struct DatedGlonass {
     pub answer: GlonassAnswer,
     pub stale: bool,
@@ -90,7 +92,7 @@ impl DatedGlonass {
     }
 }
 
-#[derive(Drop)]
+#[derive(Clone, Copy)]
 pub struct DatedUnix {
     pub answer: UnixAnswer,
     pub stale: bool,

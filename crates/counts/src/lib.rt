@@ -1,5 +1,7 @@
 // Counts of nanoseconds and the durations between them: the arithmetic that all time scales share.
 // Exact results are wider than 64 bits, so each sum goes by the sign of what is added, and each step is tested first.
+#![tactic(auto)]
+
 pub mod sums;
 pub mod units;
 pub mod unix;
@@ -7,18 +9,18 @@ pub mod unix;
 use refusals::Refusal;
 
 // A signed number of nanoseconds.
-#[derive(Drop)]
+#[derive(Clone, Copy)]
 pub struct Duration(pub i64);
 
 // A count, or why there is none.
-#[derive(Drop)]
+#[derive(Clone, Copy)]
 pub enum CountAnswer {
     Count(u64),
     Refused(Refusal),
 }
 
 // A duration, or why there is none.
-#[derive(Drop)]
+#[derive(Clone, Copy)]
 pub enum DurationAnswer {
     Lasts(Duration),
     Refused(Refusal),

@@ -10,7 +10,7 @@ use refusals::Refusal;
 const LARGEST_DURATION: u64 = i64::MAX as u64;
 
 // A duration by its sign: nanoseconds forward, or back.
-#[derive(Drop)]
+#[derive(Clone, Copy)]
 pub enum Step {
     Forward(u64),
     Back(u64),

@@ -20,14 +20,14 @@ pub const LARGEST_COUNT: u64 = u64::MAX;
 const LARGEST_SECONDS: u64 = 18_446_744_073;
 
 // Whole seconds and the remaining nanoseconds.
-#[derive(Drop)]
+#[derive(Clone, Copy)]
 pub struct DurationParts {
     pub seconds: u64,
     pub nanos: u32,
 }
 
 // Parts, or why there are none.
-#[derive(Drop)]
+#[derive(Clone, Copy)]
 pub enum PartsAnswer {
     Parts(DurationParts),
     Refused(Refusal),

@@ -1,5 +1,7 @@
 // Reads GPS counts, one a line, and writes each one's UTC date and time by the built-in table, or why there is none. An
 // inserted second is 23:59:60.
+#![tactic(auto)]
+
 ghost use Rattle.std.specs.Prelude.{◌≡◌, ◌≤◌, ◌<◌, length, take};
 ghost use Rattle.lines.specs.Pieces.{AnswersBlock};
 ghost use Rattle.lines.specs.Places.{Within, Stands};

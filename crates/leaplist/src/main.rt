@@ -1,6 +1,8 @@
 // Reads a leap-seconds.list and writes the table that it makes: a line for each entry, the expiry, and how many of the
 // file's data lines were dropped. Where it makes none, one line says why.
 // With the words `--since OLD NEW` it reads these two files, and writes one line: how far their tables convert alike.
+#![tactic(auto)]
+
 mod inner;
 
 ghost use Rattle.std.specs.Prelude.{length};

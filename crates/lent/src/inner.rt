@@ -17,7 +17,7 @@ use tables::{
 };
 
 // What is known of the entries so far, at a TAI reading.
-#[derive(Drop)]
+#[derive(Clone, Copy)]
 pub struct Pass {
     // the reading, in nanoseconds
     pub tai: u64,

@@ -1,6 +1,8 @@
 // The lent forms, after leap.rs: a list of entries, of any length, checked and looked up where it stands, and a table
 // extended in place. Nothing is copied but one entry at a time. A caller may make a list by hand, so every call but the
 // check gives 8 first where it is not valid.
+#![tactic(auto)]
+
 pub mod inner;
 
 ghost use Rattle.std.specs.Prelude.{◌≡◌, false, eqb, length};

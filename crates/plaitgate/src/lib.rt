@@ -1,6 +1,7 @@
 // The library for hosts in other languages: every public call as a C function on numbers and bytes.
 // Each returns the refusal's number, 0 for an answer, and writes its results through references, zeros on a refusal.
 // include/plaitgate.h declares them.
+#![tactic(auto)]
 
 // every scale, by tools/write-scales
 pub mod beidou;

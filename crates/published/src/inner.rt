@@ -29,14 +29,14 @@ pub const NTP_SECONDS_TO_1980: u64 = 2_524_953_600;
 const LARGEST_OFFSET: u64 = i32::MAX as u64;
 
 // A number and a place after it.
-#[derive(Drop)]
+#[derive(Clone, Copy)]
 pub enum NumberRead {
     Number(u64, usize),
     Malformed,
 }
 
 // A comment or a blank line, a line with a record, or one with the NTP seconds of the expiry, and where the line ends.
-#[derive(Drop)]
+#[derive(Clone, Copy)]
 pub enum LineRead {
     Passes(usize),
     Holds(LeapRecord, usize),

@@ -1,4 +1,6 @@
 // The published leap-seconds.list, read into a table. The file is foreign input: any bytes get a table or a refusal.
+#![tactic(auto)]
+
 pub mod inner;
 
 ghost use Rattle.std.specs.Prelude.{◌≡◌};
@@ -13,7 +15,7 @@ pub const MOST_BYTES: usize = 65_536;
 
 // Whether a table was made, or why not; the number of a malformed line, from 1, or 0; how many data lines were dropped
 // before the table's first entry; and the table. On a refusal none is dropped, and the table has no entry.
-#[derive(Drop)]
+#[derive(Clone, Copy)]
 pub struct ListAnswer {
     pub answer: Taken,
     pub line: usize,

@@ -18,21 +18,21 @@ use tables::inner::{OFFSET_OF_NO_ENTRY, offset_step};
 use tables::{LeapTable, NO_EXPIRY, RUNTIME_CAPACITY, TableAnswer, Taken};
 
 // From a TAI second on, TAI is `offset` seconds ahead of UTC.
-#[derive(Drop)]
+#[derive(Clone, Copy)]
 pub struct LeapRecord {
     pub threshold: Seconds,
     pub offset: i32,
 }
 
 // The TAI second of a file's expiry.
-#[derive(Drop)]
+#[derive(Clone, Copy)]
 pub enum Expiry {
     Nothing,
     At(Seconds),
 }
 
 // What has been seen of the records so far.
-#[derive(Drop)]
+#[derive(Clone, Copy)]
 pub struct Progress {
     // a record came
     pub some: bool,

@@ -1,9 +1,11 @@
 // The refusals of the clock core, each with its number.
+#![tactic(auto)]
+
 ghost use Rattle.std.specs.Prelude.{◌≡◌};
 ghost use Rattle.refusals.specs.Number.{number_of};
 
 // Why a call gives no answer.
-#[derive(Drop)]
+#[derive(Clone, Copy)]
 pub enum Refusal {
     // the exact result, or a count on the way to it, does not fit its type
     Overflow,

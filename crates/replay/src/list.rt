@@ -3,7 +3,7 @@ use crate::reply::{Question, Reply};
 use crate::{ask, by_value};
 
 // The numbers of the line that is being read, and what came of the lines before it.
-#[derive(Drop)]
+#[derive(Clone, Copy)]
 pub struct Reading {
     pub sizes: [u64; 16],
     pub signs: [u64; 16],

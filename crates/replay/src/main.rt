@@ -1,5 +1,7 @@
 // Replays recorded answers: reads the recorded list from standard input, asks each question of the exported call and of
 // the calls by value, and says with how many lines both agree and how many differ.
+#![tactic(auto)]
+
 mod ask;
 mod by_value;
 mod list;

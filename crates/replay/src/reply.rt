@@ -5,7 +5,7 @@ use counts::{Duration, DurationAnswer, sums};
 use refusals::Refusal;
 
 // The inputs of a call: of each number its size, and whether a minus sign stands before it.
-#[derive(Drop)]
+#[derive(Clone, Copy)]
 pub struct Question {
     pub x: u64,
     pub x_minus: bool,
@@ -23,7 +23,7 @@ pub struct Question {
 }
 
 // The refusal's number, 0 for an answer, and up to seven results; the first and the third can have a minus sign.
-#[derive(Drop)]
+#[derive(Clone, Copy)]
 pub struct Reply {
     pub number: u32,
     pub values: [u64; 7],

@@ -10,11 +10,11 @@ use counts::units::DurationParts;
 use counts::{CountAnswer, Duration, DurationAnswer, sums, units};
 use refusals::Refusal;
 
-#[derive(Drop)]
+#[derive(Clone, Copy)]
 pub struct Beidou(pub u64);
 
 // A BeiDou count, or why there is none.
-#[derive(Drop)]
+#[derive(Clone, Copy)]
 pub enum BeidouAnswer {
     Count(Beidou),
     Refused(Refusal),

@@ -10,11 +10,11 @@ use counts::units::DurationParts;
 use counts::{CountAnswer, Duration, DurationAnswer, sums, units};
 use refusals::Refusal;
 
-#[derive(Drop)]
+#[derive(Clone, Copy)]
 pub struct Galileo(pub u64);
 
 // A Galileo count, or why there is none.
-#[derive(Drop)]
+#[derive(Clone, Copy)]
 pub enum GalileoAnswer {
     Count(Galileo),
     Refused(Refusal),

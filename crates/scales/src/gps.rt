@@ -10,11 +10,11 @@ use counts::units::DurationParts;
 use counts::{CountAnswer, Duration, DurationAnswer, sums, units};
 use refusals::Refusal;
 
-#[derive(Drop)]
+#[derive(Clone, Copy)]
 pub struct Gps(pub u64);
 
 // A GPS count, or why there is none.
-#[derive(Drop)]
+#[derive(Clone, Copy)]
 pub enum GpsAnswer {
     Count(Gps),
     Refused(Refusal),

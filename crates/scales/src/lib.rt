@@ -1,5 +1,7 @@
 // The time scales of time.rs: GPS, UTC, GLONASS, TAI, Galileo and BeiDou, each a count of nanoseconds since its epoch.
 // One tuple struct for each, so that a count of one scale is never taken where another is due.
+#![tactic(auto)]
+
 pub mod duration;
 // every scale, by tools/write-scales
 pub mod beidou;

@@ -10,11 +10,11 @@ use counts::units::DurationParts;
 use counts::{CountAnswer, Duration, DurationAnswer, sums, units};
 use refusals::Refusal;
 
-#[derive(Drop)]
+#[derive(Clone, Copy)]
 pub struct Tai(pub u64);
 
 // A TAI count, or why there is none.
-#[derive(Drop)]
+#[derive(Clone, Copy)]
 pub enum TaiAnswer {
     Count(Tai),
     Refused(Refusal),

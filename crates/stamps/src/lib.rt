@@ -1,4 +1,6 @@
 // The form YYYY-MM-DDThh:mm:ss.nnnnnnnnnZ of a date and a time of day: read from bytes, and written.
+#![tactic(auto)]
+
 pub mod inner;
 
 ghost use Rattle.std.specs.Prelude.{◌≡◌};
@@ -8,7 +10,7 @@ use civil::CivilDateTime;
 use refusals::Refusal;
 
 // The fields as their digits say, real or not, or why there are none.
-#[derive(Drop)]
+#[derive(Clone, Copy)]
 pub enum StampAnswer {
     Fields(CivilDateTime),
     Refused(Refusal),

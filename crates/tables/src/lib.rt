@@ -1,5 +1,7 @@
 // Leap-second tables, after leap.rs: building, extension, and the offset TAI minus UTC in force at a TAI reading.
 // A caller may make a table by hand, so every call refuses an invalid table with 8 before anything else.
+#![tactic(auto)]
+
 pub mod inner;
 pub mod table;
 
@@ -14,7 +16,7 @@ use scales::tai::Tai;
 pub const RUNTIME_CAPACITY: usize = 64;
 
 // From the TAI reading `tai_nanos` on, TAI is `tai_minus_utc` seconds ahead of UTC.
-#[derive(Drop)]
+#[derive(Clone, Copy)]
 pub struct LeapEntry {
     pub tai_nanos: u64,
     pub tai_minus_utc: i32,
@@ -35,7 +37,7 @@ impl LeapEntry {
 pub const NO_EXPIRY: u64 = LARGEST_COUNT;
 
 // Up to 64 entries: those in the first `len` slots. From the TAI reading `expiry` on, the table is stale.
-#[derive(Drop)]
+#[derive(Clone, Copy)]
 pub struct LeapTable {
     pub thresholds: [u64; 64],
     pub offsets: [i32; 64],
@@ -44,33 +46,33 @@ pub struct LeapTable {
 }
 
 // Whether entries were taken, or why not.
-#[derive(Drop)]
+#[derive(Clone, Copy)]
 pub enum Taken {
     Done,
     Refused(Refusal),
 }
 
 // The answer, and the table afterwards.
-#[derive(Drop)]
+#[derive(Clone, Copy)]
 pub struct TableAnswer {
     pub answer: Taken,
     pub table: LeapTable,
 }
 
-#[derive(Drop)]
+#[derive(Clone, Copy)]
 pub enum LengthAnswer {
     Length(usize),
     Refused(Refusal),
 }
 
-#[derive(Drop)]
+#[derive(Clone, Copy)]
 pub enum EmptyAnswer {
     Empty(bool),
     Refused(Refusal),
 }
 
 // The entry at a place, or nothing past the last one.
-#[derive(Drop)]
+#[derive(Clone, Copy)]
 pub enum EntryAnswer {
     Entry(LeapEntry),
     Nothing,
@@ -78,7 +80,7 @@ pub enum EntryAnswer {
 }
 
 // A TAI count, that of the last event or of the expiry, or nothing.
-#[derive(Drop)]
+#[derive(Clone, Copy)]
 pub enum UpdateAnswer {
     At(Tai),
     Nothing,
@@ -86,21 +88,21 @@ pub enum UpdateAnswer {
 }
 
 // The place of an entry, counted from 0, or nothing.
-#[derive(Drop)]
+#[derive(Clone, Copy)]
 pub enum Place {
     At(usize),
     Nothing,
 }
 
 // A threshold, or nothing.
-#[derive(Drop)]
+#[derive(Clone, Copy)]
 pub enum Threshold {
     At(u64),
     Nothing,
 }
 
 // What a lookup tells of the entry in force at a TAI reading. In a table with no entry it is 19, and nothing.
-#[derive(Drop)]
+#[derive(Clone, Copy)]
 pub struct Lookup {
     // TAI minus UTC in seconds
     pub offset: i32,
@@ -109,21 +111,21 @@ pub struct Lookup {
     pub next: Threshold,
 }
 
-#[derive(Drop)]
+#[derive(Clone, Copy)]
 pub enum LookupAnswer {
     Told(Lookup),
     Refused(Refusal),
 }
 
 // TAI minus UTC in seconds.
-#[derive(Drop)]
+#[derive(Clone, Copy)]
 pub enum OffsetAnswer {
     Offset(i32),
     Refused(Refusal),
 }
 
 // The offset in force at a TAI reading, and whether the table is stale there.
-#[derive(Drop)]
+#[derive(Clone, Copy)]
 pub struct DatedOffset {
     pub answer: OffsetAnswer,
     pub stale: bool,

@@ -11,7 +11,7 @@ use crate::DatedUnix;
 use crate::inner::steps;
 use counts::CountAnswer;
 
-#[derive(Drop)]
+#[derive(Clone, Copy)]
 pub struct DatedCount {
     pub answer: CountAnswer,
     pub stale: bool,

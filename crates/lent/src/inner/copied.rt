@@ -15,7 +15,7 @@ use tables::{
 };
 
 // What each call answers for one list.
-#[derive(Drop)]
+#[derive(Clone, Copy)]
 pub struct Answers {
     pub check: Taken,
     pub length: LengthAnswer,

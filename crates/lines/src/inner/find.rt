@@ -52,7 +52,7 @@ pub fn whole_line<'a>(
 }
 
 // What came of a block: how many bytes of the line buffer are used, of the block taken, and of answers made.
-#[derive(Drop)]
+#[derive(Clone, Copy)]
 pub struct Answered {
     pub used: usize,
     pub taken: usize,

@@ -10,7 +10,7 @@ use texts::inner::LINE_END;
 
 // Where a run stands: `used` bytes of a line are in the line buffer, and the bytes of the block from `at` to `end` are
 // to be taken. `over` says that the input has ended.
-#[derive(Drop)]
+#[derive(Clone, Copy)]
 pub struct Place {
     pub used: usize,
     pub at: usize,
@@ -19,7 +19,7 @@ pub struct Place {
 }
 
 // A run that goes on from a place, or why it is over.
-#[derive(Drop)]
+#[derive(Clone, Copy)]
 pub enum Progress {
     At(Place),
     Ended,
@@ -28,7 +28,7 @@ pub enum Progress {
 }
 
 // How many bytes were read.
-#[derive(Drop)]
+#[derive(Clone, Copy)]
 pub enum Input {
     Bytes(usize),
     CannotRead,

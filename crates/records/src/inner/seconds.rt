@@ -8,7 +8,7 @@ use counts::Duration;
 use counts::sums::{Step, by_sign};
 
 // −size where `below` says so, else size.
-#[derive(Drop)]
+#[derive(Clone, Copy)]
 pub struct Seconds {
     pub below: bool,
     pub size: u64,

@@ -134,7 +134,7 @@ pub fn times(call: u64, q: Question) -> Reply {
 }
 
 // The places that a civil time is written to.
-#[derive(Drop)]
+#[derive(Clone, Copy)]
 struct Fields {
     year: i32,
     month: u8,

@@ -1,9 +1,0 @@
--- Written by tools/write-scales from its template in tools/templates.
--- `plaitgate_builtin_glonass_to_beidou` gives a host what `builtin::inner::shifted::shifted_from_glonass` answers.
-use Rattle.refusals.proofs.Given.{gives_same}
-use Rattle.plaitgate.proofs.beidou_conversions.plaitgate_builtin_glonass_to_beidou as call
-
-pub plaitgate-builtin-glonass-to-beidou-spec : {M : Type 1} → call.Statement.statement M
-plaitgate-builtin-glonass-to-beidou-spec =
-    call.Tie.close (call.Tie.spec (search) (search)
-    (λ c. gives_same 0 c.before.before.shifted-from-glonass.ensures c.count.ensures))

@@ -1,9 +1,0 @@
--- `plaitgate_list_current_tai_minus_utc` gives a host what `list::current_tai_minus_utc` answers.
-use lib.IntN.{pos}
-use Rattle.refusals.proofs.Given.{gives_same}
-use Rattle.plaitgate.proofs.leap_lists.plaitgate_list_current_tai_minus_utc as call
-
-pub plaitgate-list-current-tai-minus-utc-spec : {M : Type 1} → call.Statement.statement M
-plaitgate-list-current-tai-minus-utc-spec =
-    call.Tie.close (call.Tie.spec (search) (search)
-    (λ c. gives_same (pos 0) c.before.before.current_tai_minus_utc.ensures c.offset.ensures))
