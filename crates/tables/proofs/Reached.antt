@@ -122,6 +122,7 @@ unfolding reached
 an_entry_more es t t' b = go es b.among
   where
     go : (es : List Entry) → Memᴰ b.entry es → reached es t < reached es t'
+    go [] x' = elim x' [ ]
     go (e ∷ es) (Memᴰ.head q) = omega (arith, ap threshold q, b.after, b.by, rises es t t' (omega (arith, b.after, b.by)))
     go (e ∷ es) (Memᴰ.tail m) = omega (arith, b.after, b.by, go es m)
 

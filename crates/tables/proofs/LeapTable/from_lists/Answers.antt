@@ -1,0 +1,26 @@
+-- The answer and the table of a building, by the first refusal.
+use Rattle.std.proofs.Common.{sym, ap, ◌∙◌}
+use Rattle.refusals.proofs.Tells.{number_not_zero}
+use Rattle.tables.specs.Answers.{taken_in}
+use Rattle.tables.proofs.Growing.{nothing_given, too_many_given, entry_refused, all_taken}
+use Rattle.tables.proofs.LeapTable.from_lists.Goals as goal
+
+pub returns-then-n-eq0 : goal.returns-then-n-eq0
+returns-then-n-eq0 c = c.unbuilt.ensures ∙ nothing_given _ _ _ c.shorter-n.ensures c.if-n-eq0.true
+
+pub returns-then-n-gt-RUNTIME_CAPACITY : goal.returns-then-n-gt-RUNTIME_CAPACITY
+returns-then-n-gt-RUNTIME_CAPACITY c =
+    c.unbuilt-then-n-gt-RUNTIME_CAPACITY.ensures
+    ∙ too_many_given _ _ _ c.shorter-n.ensures c.if-n-gt-RUNTIME_CAPACITY.true
+
+pub returns-in-Refused : goal.returns-in-Refused
+returns-in-Refused c =
+    c.unbuilt-in-Refused.ensures
+    ∙ entry_refused _ _ _ c.shorter-n.ensures c.if-n-eq0.false c.if-n-gt-RUNTIME_CAPACITY.false _
+    (number_not_zero c.in-Refused.why) (sym (ap taken_in c.in-Refused.is) ∙ c.first_refusal.ensures.first)
+
+pub returns-in-Done : goal.returns-in-Done
+returns-in-Done c =
+    (λ j. (0, c.table_of.ensures j))
+    ∙ all_taken _ _ _ c.shorter-n.ensures c.if-n-eq0.false c.if-n-gt-RUNTIME_CAPACITY.false
+    (sym (ap taken_in c.in-Done.is) ∙ c.first_refusal.ensures.first)
