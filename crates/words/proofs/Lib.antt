@@ -5,4 +5,5 @@ pub mod Stores
 pub mod Reading
 pub mod Writing
 pub mod WayBack
+pub mod FieldTurns
 pub mod Calls
