@@ -1,7 +1,7 @@
 -- The programs gpscivil and civilgps together: by civil readings for a line, and line by line for an input.
 use mathlib.Core.Path.{◌≡◌, refl, sym, ap, subst, ◌∙◌}
 use mathlib.Core.Bool.{Bool, true, false, cond, ◌&&◌, false≢true}
-use mathlib.Core.List.{List, [], ◌∷◌, ◌++◌, map, append_assoc, Memᴰ}
+use mathlib.Core.List.{List, [], ◌∷◌, ◌++◌, map, append_assoc}
 use Prim.Native.Nat.{ℕ, ◌^◌, ◌<◌}
 use native.Mathlib.Omega.{arith}
 use borrow.Author.Tests.{ne_eqb, ltb-true, leb-true}
@@ -27,7 +27,7 @@ use Rattle.lines.specs.OutcomeLine.{line_of}
 use Rattle.line_answers.specs.Gpscivil as gpscivil
 use Rattle.line_answers.specs.Civilgps as civilgps
 use Rattle.line_answers.proofs.ReadingFits.{reading_fits}
-use Rattle.demands.specs.RoundTrips.{text_of, ended, IsRead, Accepted, RoundTrips}
+use Rattle.demands.specs.RoundTrips.{text_of, ended, Each, IsRead, Accepted, RoundTrips}
 
 -- ---- a line
 reads_count : (g : ℕ) → g < 2 ^ 64 → gpscivil.reading_of_line (decimal g) ≡ gps_to_civil builtin g
@@ -123,8 +123,7 @@ line_before [] s h = refl
 line_before (b ∷ l) s h = let (not_10, rest) = no_end b l h in rw (not_10, line_before l s rest)
 
 abbrev Lines : List (List ℕ) → Type 0
-Lines [] = Unit {0}
-Lines (l ∷ ls) = (has_no_end l ≡ true) × Lines ls
+Lines ls = Each (λ l. has_no_end l ≡ true) ls
 
 lines_of_lem : (ls : List (List ℕ)) → Lines ls → lines_of (ended ls) ≡ ls
 lines_of_lem [] h = refl
@@ -179,22 +178,20 @@ text-written text g e = ap line_of e
 count_written : (text : List ℕ) (g : ℕ) → civilgps.gps_of_line text ≡ answered g → civilgps.answer_to text ≡ decimal g ++ (10 ∷ [])
 count_written text g e = ap (λ (o : Outcome ℕ). line_of (changed decimal o)) e
 
-counts : (gs : List ℕ) → ((g : ℕ) → Memᴰ g gs → IsRead g) → Both gpscivil.answer_to civilgps.answer_to (map decimal gs)
+counts : (gs : List ℕ) → Each IsRead gs → Both gpscivil.answer_to civilgps.answer_to (map decimal gs)
 counts [] each = none gpscivil.answer_to civilgps.answer_to
-counts (g ∷ gs) each =
-    let read = each g (Memᴰ.head refl) in
+counts (g ∷ gs) (read, rest) =
     let (c, is) = has_text g read in
     one_more gpscivil.answer_to civilgps.answer_to (decimal g) (written c) (map decimal gs) (count_no_end g)
     (text_no_end (written c) (in_form c)) (text-written (written c) g is)
-    (count_written (written c) g (comes_back (written c) g read.0 is)) (counts gs (λ x m. each x (Memᴰ.tail m)))
+    (count_written (written c) g (comes_back (written c) g read.0 is)) (counts gs rest)
 
-texts : (ls : List (List ℕ)) → ((l : List ℕ) → Memᴰ l ls → Accepted l) → Both civilgps.answer_to gpscivil.answer_to ls
+texts : (ls : List (List ℕ)) → Each Accepted ls → Both civilgps.answer_to gpscivil.answer_to ls
 texts [] each = none civilgps.answer_to gpscivil.answer_to
-texts (l ∷ ls) each =
-    let (g, e) = each l (Memᴰ.head refl) in
+texts (l ∷ ls) ((g, e), rest) =
     let p = accepted l g e in
     one_more civilgps.answer_to gpscivil.answer_to l (decimal g) ls (text_no_end l p.formed) (count_no_end g)
-    (count_written l g e) (text-written l g p.is) (texts ls (λ x m. each x (Memᴰ.tail m)))
+    (count_written l g e) (text-written l g p.is) (texts ls rest)
 
 pub round_trips : RoundTrips
 round_trips = record {

@@ -1,7 +1,7 @@
 -- The programs gpscivil and civilgps together: each gives back what the other took. A program writes its answers to the
 -- lines of its input (line_answers/proofs: CutAnywhere).
 use Rattle.std.specs.Prelude.{◌≡◌, ◌↔◌, ℕ, ◌^◌, ◌<◌}
-use mathlib.Core.List.{List, [], ◌∷◌, ◌++◌, map, Memᴰ}
+use mathlib.Core.List.{List, [], ◌∷◌, ◌++◌, map}
 use Rattle.refusals.specs.Outcome.{Outcome, answered, changed}
 use Rattle.civil.specs.declared.CivilDateTime.{CivilDateTime}
 use Rattle.builtin.specs.Builtin.{builtin}
@@ -29,6 +29,10 @@ abbrev pub ended : List (List ℕ) → List ℕ
 ended [] = []
 ended (l ∷ ls) = l ++ (10 ∷ ended ls)
 
+abbrev pub Each : {A : Type 0} → (A → Type 0) → List A → Type 0
+Each P [] = Unit {0}
+Each P (a ∷ rest) = P a × Each P rest
+
 -- a GPS count of 64 bits that is read
 abbrev pub IsRead : ℕ → Type 0
 IsRead g = (g < 2 ^ 64) × ((c : CivilDateTime) × (gps_to_civil builtin g ≡ answered c))
@@ -47,8 +51,8 @@ pub record RoundTrips : Type 0 where
   -- and a text is accepted exactly if some count is answered by it.
   pub written_exactly : (text : List ℕ) → Accepted text ↔ ((g : ℕ) × (g < 2 ^ 64) × (text_of g ≡ answered text))
   -- gpscivil | civilgps gives back counts that are read,
-  pub counts_come_back : (gs : List ℕ) → ((g : ℕ) → Memᴰ g gs → IsRead g)
+  pub counts_come_back : (gs : List ℕ) → Each IsRead gs
       → civilgps_writes (gpscivil_writes (ended (map decimal gs))) ≡ ended (map decimal gs)
   -- and civilgps | gpscivil texts that are accepted.
-  pub texts_come_back : (texts : List (List ℕ)) → ((text : List ℕ) → Memᴰ text texts → Accepted text)
+  pub texts_come_back : (texts : List (List ℕ)) → Each Accepted texts
       → gpscivil_writes (civilgps_writes (ended texts)) ≡ ended texts
