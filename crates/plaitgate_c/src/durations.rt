@@ -1,0 +1,31 @@
+// The calls of plaitgate::durations, for hosts. Written by tools/write-exports.
+ghost use Rattle.std.specs.Prelude.{pos};
+ghost use Rattle.refusals.specs.Outcome.{Gives, answered};
+ghost use Rattle.counts.specs.Units.{parts_of, parts_from};
+
+#[unsafe(no_mangle)]
+pub extern "C" fn plaitgate_duration_parts_new(
+    seconds: u64,
+    nanos: u32,
+    parts_seconds: &mut u64,
+    parts_nanos: &mut u32,
+) -> u32
+    ensures { Gives (parts_of 0) (parts_from seconds nanos) result
+        (record { seconds = parts_seconds.new; nanos = parts_nanos.new }) }
+{
+    plaitgate::durations::plaitgate_duration_parts_new(seconds, nanos, parts_seconds, parts_nanos)
+}
+
+#[unsafe(no_mangle)]
+pub extern "C" fn plaitgate_duration_from_nanos(nanos: i64, lasts: &mut i64) -> u32
+    ensures { Gives (pos 0) (answered nanos) result lasts.new }
+{
+    plaitgate::durations::plaitgate_duration_from_nanos(nanos, lasts)
+}
+
+#[unsafe(no_mangle)]
+pub extern "C" fn plaitgate_duration_as_nanos(lasts: i64, nanos: &mut i64) -> u32
+    ensures { Gives (pos 0) (answered lasts) result nanos.new }
+{
+    plaitgate::durations::plaitgate_duration_as_nanos(lasts, nanos)
+}

@@ -1,0 +1,18 @@
+// The calls of plaitgate::gps_tai, for hosts. Written by tools/write-exports.
+ghost use Rattle.refusals.specs.Outcome.{Gives};
+ghost use Rattle.counts.specs.Exact.{up, down};
+ghost use Rattle.scales.specs.Scales.{tai_minus_gps};
+
+#[unsafe(no_mangle)]
+pub extern "C" fn plaitgate_gps_to_tai(count: u64, tai: &mut u64) -> u32
+    ensures { Gives 0 (up tai_minus_gps count) result tai.new }
+{
+    plaitgate::gps_tai::plaitgate_gps_to_tai(count, tai)
+}
+
+#[unsafe(no_mangle)]
+pub extern "C" fn plaitgate_gps_from_tai(tai: u64, count: &mut u64) -> u32
+    ensures { Gives 0 (down tai_minus_gps tai) result count.new }
+{
+    plaitgate::gps_tai::plaitgate_gps_from_tai(tai, count)
+}
