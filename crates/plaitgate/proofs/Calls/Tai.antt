@@ -43,6 +43,6 @@ pub tai_checked_elapsed : OneAnswerAndEnd tai.plaitgate_tai_checked_elapsed.Read
     (λ κ e. e.1.1.0.now)
 tai_checked_elapsed κ a x y e f p q = both p q
 
-pub tai-limits : OneAnswerAndEnd tai.plaitgate_tai_limits.Reads.Post
+pub tai_limits : OneAnswerAndEnd tai.plaitgate_tai_limits.Reads.Post
     (λ κ e. limits_at e.0.now e.1.0.now e.1.1.0.now e.1.1.1.0.now)
-tai-limits κ a x y e f p q = both p q
+tai_limits κ a x y e f p q = both p q

@@ -43,6 +43,6 @@ pub utc_checked_elapsed : OneAnswerAndEnd utc.plaitgate_utc_checked_elapsed.Read
     (λ κ e. e.1.1.0.now)
 utc_checked_elapsed κ a x y e f p q = both p q
 
-pub utc-limits : OneAnswerAndEnd utc.plaitgate_utc_limits.Reads.Post
+pub utc_limits : OneAnswerAndEnd utc.plaitgate_utc_limits.Reads.Post
     (λ κ e. limits_at e.0.now e.1.0.now e.1.1.0.now e.1.1.1.0.now)
-utc-limits κ a x y e f p q = both p q
+utc_limits κ a x y e f p q = both p q
