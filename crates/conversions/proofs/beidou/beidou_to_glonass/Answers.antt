@@ -1,4 +1,3 @@
--- Written by tools/write-scales from its template in tools/templates.
 -- To UTC, then the step to GLONASS.
 use Rattle.std.proofs.Common.{◌+◌, ◌∙◌}
 use Rattle.counts.specs.Exact.{down}
