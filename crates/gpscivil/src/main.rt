@@ -13,6 +13,9 @@ use lines::inner::find::{Answered, keep, whole_line};
 use lines::inner::streams::{Place, Progress, explain, read_on, write_out};
 use texts::inner::next_end;
 
+// How many bytes are read, and written, at a time.
+const BUFFER_BYTES: usize = 65_536;
+
 // Answers the lines that end in a block, while there is room for one more answer, and keeps the line that has begun.
 fn answer_block(line: &mut [u8], used: usize, block: &[u8], out: &mut [u8]) -> Answered
     requires line_len { length line.old ≡ 128 }
@@ -46,7 +49,13 @@ fn answer_block(line: &mut [u8], used: usize, block: &[u8], out: &mut [u8]) -> A
 }
 
 // Answers the bytes of the block that are to be taken, as many as there is room for, and writes the answers.
-fn answer_and_write(line: &mut [u8], place: Place, block: &[u8], out: &mut [u8]) -> Progress
+fn answer_and_write(
+    rt: &HostRuntime,
+    line: &mut [u8],
+    place: Place,
+    block: &[u8],
+    out: &mut [u8],
+) -> Progress
     requires line_len { length line.old ≡ 128 }
     requires within { Within (length block.now) place }
     ensures { Stands (length block.now) result }
@@ -55,7 +64,7 @@ fn answer_and_write(line: &mut [u8], place: Place, block: &[u8], out: &mut [u8])
     let end = place.end;
     let done = answer_block(line, place.used, &block[at..end], out);
     let made = done.made;
-    if write_out(&out[0..made]) {
+    if write_out(rt, &mut rt.stdout(), &out[0..made]) {
         Progress::At(Place {
             used: done.used,
             at: at + done.taken,
@@ -69,7 +78,7 @@ fn answer_and_write(line: &mut [u8], place: Place, block: &[u8], out: &mut [u8])
 
 // Reads, answers and writes until the input ends, or a read or a write fails. The u64::MAX budget exists only so that
 // the loop provably ends.
-fn run(line: &mut [u8], block: &mut [u8], out: &mut [u8]) -> Progress
+fn run(rt: &HostRuntime, line: &mut [u8], block: &mut [u8], out: &mut [u8]) -> Progress
     requires line_len { length line.old ≡ 128 }
     requires block_nonzero { 0 < length block.old }
 {
@@ -79,25 +88,24 @@ fn run(line: &mut [u8], block: &mut [u8], out: &mut [u8]) -> Progress
         end: 0,
         over: false,
     };
-    let mut left = u64::MAX;
-    while left > 0 {
-        let read = read_on(place, block);
+    for _ in 0..u64::MAX {
+        let read = read_on(rt, &mut rt.stdin(), place, block);
         let Progress::At(next) = read else {
             return read;
         };
-        let written = answer_and_write(line, next, block, out);
+        let written = answer_and_write(rt, line, next, block, out);
         let Progress::At(after) = written else {
             return written;
         };
         place = after;
-        left -= 1;
     }
     Progress::CannotRead
 }
 
-fn main() {
+fn main(rt: HostRuntime) {
     let mut line = [0u8; 128];
-    let mut block = io::large_buffer();
-    let mut out = io::large_buffer();
-    explain(b"gpscivil", run(&mut line, &mut block, &mut out));
+    let mut block = [0u8; BUFFER_BYTES];
+    let mut out = [0u8; BUFFER_BYTES];
+    let progress = run(&rt, &mut line, &mut block, &mut out);
+    explain(&mut rt.stderr(), b"gpscivil", progress);
 }

@@ -13,9 +13,10 @@ ghost use Rattle.leaplist.specs.Since.{since_line};
 
 use inner::put::{put_refusal, put_table};
 use inner::since::{put_refused_file, put_with_new};
-use libc::{STDERR_FILENO, STDIN_FILENO};
 use lines::inner::streams::{Input, Progress, explain, read_whole, write_out};
 use published::MOST_BYTES;
+use std::env::{Env, FillError};
+use std::fs::File;
 use tables::Taken;
 
 // The longest report: 64 lines of at most 73 bytes, one of at most 39, and one of at most 29.
@@ -60,47 +61,57 @@ pub fn since(old: &[u8], new: &[u8], out: &mut [u8]) -> usize
 }
 
 // Reads standard input, and writes the report on it.
-fn run(block: &mut [u8], out: &mut [u8]) -> Progress {
-    let Input::Bytes(n) = read_whole(STDIN_FILENO, block) else {
+fn run(rt: &HostRuntime, block: &mut [u8], out: &mut [u8]) -> Progress {
+    let Input::Bytes(n) = read_whole(rt, &mut rt.stdin(), block) else {
         return Progress::CannotRead;
     };
     let made = report(&block[0..n], out);
-    if write_out(&out[0..made]) {
+    if write_out(rt, &mut rt.stdout(), &out[0..made]) {
         Progress::Ended
     } else {
         Progress::CannotWrite
     }
 }
 
-// Reads the file that a word of the command line names.
-fn read_named(word: usize, block: &mut [u8]) -> Input
+// Says on standard error why a run is over. What cannot be written is left out: there is no other place to say so.
+fn say(rt: &HostRuntime, words: &[u8]) {
+    let _ = rt.stderr().write_all(words);
+}
+
+// The longest name of a file, with the zero byte that ends it for the system.
+const LONGEST_NAME: usize = 4_096;
+
+// Reads the file that a word of the command line names, in UTF-8.
+fn read_named(rt: &HostRuntime, word: usize, block: &mut [u8]) -> Input
     ensures { Reads (length block.old) result }
 {
-    let mut name = io::buffer();
-    let n = os::arg(word, &mut name);
-    let fd = os::open_read(&name[..n]);
-    if fd < 0 {
+    let mut name = [0u8; LONGEST_NAME];
+    let Ok(n) = rt.arg(word, &mut name) else {
         return Input::CannotRead;
-    }
-    let input = read_whole(fd, block);
-    libc::close(fd);
-    input
+    };
+    let Ok(path) = str::from_utf8(&name[..n]) else {
+        return Input::CannotRead;
+    };
+    let Ok(mut file) = File::open(rt, path) else {
+        return Input::CannotRead;
+    };
+    read_whole(rt, &mut file, block)
 }
 
 // Reads the files that the second and the third word name, and writes the line on them, or says on standard error which
 // one cannot be read.
-fn run_since(old: &mut [u8], new: &mut [u8], out: &mut [u8]) {
-    let Input::Bytes(n) = read_named(2, old) else {
-        io::write_all(STDERR_FILENO, b"leaplist: cannot read OLD\n");
+fn run_since(rt: &HostRuntime, old: &mut [u8], new: &mut [u8], out: &mut [u8]) {
+    let Input::Bytes(n) = read_named(rt, 2, old) else {
+        say(rt, b"leaplist: cannot read OLD\n");
         return;
     };
-    let Input::Bytes(m) = read_named(3, new) else {
-        io::write_all(STDERR_FILENO, b"leaplist: cannot read NEW\n");
+    let Input::Bytes(m) = read_named(rt, 3, new) else {
+        say(rt, b"leaplist: cannot read NEW\n");
         return;
     };
     let made = since(&old[0..n], &new[0..m], out);
-    if !write_out(&out[0..made]) {
-        explain(b"leaplist", Progress::CannotWrite);
+    if !write_out(rt, &mut rt.stdout(), &out[0..made]) {
+        explain(&mut rt.stderr(), b"leaplist", Progress::CannotWrite);
     }
 }
 
@@ -120,31 +131,46 @@ fn is_since(word: &[u8]) -> bool {
     true
 }
 
-// Whether the words are `--since` and two names; word 0 is the program's own name. A word that is too long is none.
-fn asks_since() -> bool {
-    if os::arg_count() != 4 {
+// Whether the command line has a word of this number; word 0 is the program's own name.
+fn has_word(rt: &HostRuntime, word: usize) -> bool {
+    let mut start = [0u8; 1];
+    match rt.arg(word, &mut start) {
+        Err(FillError::NotPresent) => false,
+        _ => true,
+    }
+}
+
+// Whether the words are `--since` and two names. A word that is too long is none.
+fn asks_since(rt: &HostRuntime) -> bool {
+    if !has_word(rt, 3) || has_word(rt, 4) {
         return false;
     }
     let mut word = [0u8; 7];
-    let n = os::arg(1, &mut word);
-    is_since(&word[..n])
+    match rt.arg(1, &mut word) {
+        Ok(n) => is_since(&word[..n]),
+        Err(_) => false,
+    }
 }
 
+// How many bytes there is room for in an output: more than the longest report has.
+const OUTPUT_BYTES: usize = 65_536;
+
 // One byte more than the longest file tells whether a file is longer.
-fn main() {
+fn main(rt: HostRuntime) {
     let mut block = [0u8; MOST_BYTES + 1];
-    let mut out = io::large_buffer();
-    if os::arg_count() < 2 {
-        explain(b"leaplist", run(&mut block, &mut out));
+    let mut out = [0u8; OUTPUT_BYTES];
+    if !has_word(&rt, 1) {
+        let progress = run(&rt, &mut block, &mut out);
+        explain(&mut rt.stderr(), b"leaplist", progress);
         return;
     }
-    if !asks_since() {
-        io::write_all(
-            STDERR_FILENO,
+    if !asks_since(&rt) {
+        say(
+            &rt,
             b"leaplist: usage: leaplist < LIST, or leaplist --since OLD NEW\n",
         );
         return;
     }
     let mut new = [0u8; MOST_BYTES + 1];
-    run_since(&mut block, &mut new, &mut out);
+    run_since(&rt, &mut block, &mut new, &mut out);
 }

@@ -9,11 +9,13 @@ mod numbered;
 mod reply;
 mod year;
 
-use libc::{STDERR_FILENO, STDIN_FILENO, STDOUT_FILENO};
 use list::Reading;
+use std::io;
+use std::io::Read;
 
-fn cannot_read() {
-    io::write_all(STDERR_FILENO, b"replay: cannot read\n");
+// What cannot be written is left out: there is no other place to say so.
+fn cannot_read(rt: &HostRuntime) {
+    let _ = rt.stderr().write_all(b"replay: cannot read\n");
 }
 
 // What came of the bytes of a block.
@@ -27,37 +29,32 @@ fn take(reading: Reading, block: &[u8]) -> Reading {
     next
 }
 
-// A proved loop has to end, and nothing says that the input does: it counts its reads down, from a number that no run
-// uses up.
-fn read_all(block: &mut [u8]) -> Reading {
+// A proved loop has to end, and nothing says that the input does: it counts its reads, up to a number that no run
+// reaches.
+fn read_all(rt: &HostRuntime, block: &mut [u8]) -> Reading {
     let mut reading = Reading::new();
-    let mut turns = u64::MAX;
-    while turns > 0 {
-        let got = libc::read(STDIN_FILENO, block);
-        if got < 0 {
-            cannot_read();
-            return reading;
+    for _ in 0..u64::MAX {
+        match rt.stdin().read(block) {
+            Ok(0) => return reading,
+            Ok(n) => reading = take(reading, &block[0..n]),
+            Err(_) => {
+                cannot_read(rt);
+                return reading;
+            }
         }
-        if got == 0 {
-            return reading;
-        }
-        let n = io::count(got, block);
-        reading = take(reading, &block[0..n]);
-        turns -= 1;
     }
     reading
 }
 
-fn main() {
-    let mut block = io::large_buffer();
-    let reading = read_all(&mut block);
-    io::print_decimal(STDOUT_FILENO, reading.agreed);
-    io::write_all(STDOUT_FILENO, b" recorded answers agree, ");
-    io::print_decimal(STDOUT_FILENO, reading.differed);
-    io::write_all(STDOUT_FILENO, b" differ\n");
+// How many bytes are read at a time.
+const BUFFER_BYTES: usize = 65_536;
+
+fn main(rt: HostRuntime) -> io::Result<()> {
+    let mut block = [0u8; BUFFER_BYTES];
+    let reading = read_all(&rt, &mut block);
+    println!(rt; "{} recorded answers agree, {} differ", reading.agreed, reading.differed)?;
     if 0 < reading.first {
-        io::write_all(STDOUT_FILENO, b"the first that differs is line ");
-        io::print_decimal(STDOUT_FILENO, reading.first);
-        io::write_all(STDOUT_FILENO, b"\n");
+        println!(rt; "the first that differs is line {}", reading.first)?;
     }
+    Ok(())
 }

@@ -1,11 +1,12 @@
-// Standard input read in blocks, a file read whole, and standard output written. A program's loop over blocks is:
-// `read_on`, answer, `write_out`.
-// Left to reading: which bytes the C library's read and write move. No contract says that.
-ghost use Rattle.std.specs.Prelude.{◌<◌, length};
+// An input read in blocks or whole, and an output written. A program's loop over blocks is: `read_on`, answer,
+// `write_out`.
+ghost use Rattle.std.specs.Prelude.{◌<◌, ◌≤◌, length};
+ghost use Rattle.std.specs.Io.{ReadsAtMost};
 ghost use Rattle.lines.specs.Places.{Within, Stands, Reads};
 
-use libc::types::timespec;
-use libc::{EAGAIN, EINTR, STDERR_FILENO, STDIN_FILENO, STDOUT_FILENO};
+use std::io::{Error, ErrorKind, Read, Result, Write};
+use std::thread::sleep;
+use std::time::{Clock, Duration};
 use texts::inner::LINE_END;
 
 // Where a run stands: `used` bytes of a line are in the line buffer, and the bytes of the block from `at` to `end` are
@@ -35,43 +36,77 @@ pub enum Input {
 }
 
 // A millisecond, between two tries of a call that found nothing to do.
-const PAUSE_NANOS: i64 = 1_000_000;
+const PAUSE_MILLIS: u64 = 1;
 
-fn pause() {
-    let asked = timespec {
-        tv_sec: 0,
-        tv_nsec: PAUSE_NANOS,
-    };
-    let mut left = timespec {
-        tv_sec: 0,
-        tv_nsec: 0,
-    };
-    libc::nanosleep(&asked, &mut left);
+// Whether a read or a write that failed is to be made again: one that was interrupted, and one that found no byte or no
+// room yet, which this waits for.
+fn is_tried_again(clock: &impl Clock, error: &Error) -> bool {
+    match error.kind() {
+        ErrorKind::Interrupted => true,
+        ErrorKind::WouldBlock => {
+            sleep(clock, Duration::from_millis(PAUSE_MILLIS));
+            true
+        }
+        _ => false,
+    }
 }
 
-// Whether a read or a write that returned `got` moved nothing and never will. The caller makes it again where it was
-// interrupted, and where it found no byte or no room yet, which this waits for.
-fn failed(got: isize) -> bool {
-    if got > 0 {
-        return false;
+// Where a run stands after a read from a place.
+fn after_read(clock: &impl Clock, place: Place, block: &mut [u8], got: Result<usize>) -> Progress
+    requires held { place.used ≤ 128 }
+    requires bound { ReadsAtMost got block.old }
+    requires block_nonzero { 0 < length block.old }
+    ensures { Stands (length block.old) result }
+{
+    match got {
+        Ok(0) => ended(place.used, block),
+        Ok(n) => Progress::At(Place {
+            used: place.used,
+            at: 0,
+            end: n,
+            over: false,
+        }),
+        Err(e) => {
+            if is_tried_again(clock, &e) {
+                Progress::At(Place {
+                    used: place.used,
+                    at: 0,
+                    end: 0,
+                    over: false,
+                })
+            } else {
+                Progress::CannotRead
+            }
+        }
     }
-    if got == 0 {
-        return true;
+}
+
+// The end of the input ends a line that has begun: a line end in the block stands for it.
+fn ended(used: usize, block: &mut [u8]) -> Progress
+    requires held { used ≤ 128 }
+    requires block_nonzero { 0 < length block.old }
+    ensures { Stands (length block.old) result }
+{
+    if used == 0 {
+        return Progress::Ended;
     }
-    let reason = os::errno();
-    if reason == EINTR {
-        return false;
-    }
-    if reason == EAGAIN {
-        pause();
-        return false;
-    }
-    true
+    block[0] = LINE_END;
+    Progress::At(Place {
+        used: used,
+        at: 0,
+        end: 1,
+        over: true,
+    })
 }
 
 // Reads a block where all bytes of the last one are taken. The end of the input ends a line that has begun: a line end
 // in the block stands for it. A read that has to be made again leaves no byte to take.
-pub fn read_on(place: Place, block: &mut [u8]) -> Progress
+pub fn read_on<R: Read>(
+    clock: &impl Clock,
+    input: &mut R,
+    place: Place,
+    block: &mut [u8],
+) -> Progress
     requires within { Within (length block.old) place }
     requires block_nonzero { 0 < length block.old }
     ensures { Stands (length block.old) result }
@@ -82,82 +117,64 @@ pub fn read_on(place: Place, block: &mut [u8]) -> Progress
     if place.over {
         return Progress::Ended;
     }
-    let got = libc::read(STDIN_FILENO, block);
-    if got == 0 {
-        if place.used == 0 {
-            return Progress::Ended;
-        }
-        block[0] = LINE_END;
-        return Progress::At(Place {
-            used: place.used,
-            at: 0,
-            end: 1,
-            over: true,
-        });
-    }
-    if failed(got) {
-        return Progress::CannotRead;
-    }
-    Progress::At(Place {
-        used: place.used,
-        at: 0,
-        end: io::count(got, block),
-        over: false,
-    })
+    let got = input.read(block);
+    after_read(clock, place, block, got)
 }
 
-// Reads an open file until it ends or the block is full. The u64::MAX budget exists only so that the loop provably ends.
-pub fn read_whole(fd: i32, block: &mut [u8]) -> Input
+// Reads an input until it ends or the block is full. The u64::MAX budget exists only so that the loop provably ends.
+pub fn read_whole<R: Read>(clock: &impl Clock, input: &mut R, block: &mut [u8]) -> Input
     ensures { Reads (length block.old) result }
 {
     let mut at: usize = 0;
-    let mut left = u64::MAX;
-    while left > 0 {
+    for _ in 0..u64::MAX {
         if at == block.len() {
             return Input::Bytes(at);
         }
-        let got = libc::read(fd, &mut block[at..]);
-        if got == 0 {
-            return Input::Bytes(at);
+        match input.read(&mut block[at..]) {
+            Ok(0) => return Input::Bytes(at),
+            Ok(n) => at += n,
+            Err(e) => {
+                if !is_tried_again(clock, &e) {
+                    return Input::CannotRead;
+                }
+            }
         }
-        if failed(got) {
-            return Input::CannotRead;
-        }
-        at += io::count(got, &block[at..]);
-        left -= 1;
     }
     Input::CannotRead
 }
 
-// Writes bytes to standard output; whether all could be written. The u64::MAX budget exists only so that the loop
-// provably ends.
-pub fn write_out(bytes: &[u8]) -> bool {
+// Writes bytes; whether all could be written. The u64::MAX budget exists only so that the loop provably ends.
+pub fn write_out<W: Write>(clock: &impl Clock, output: &mut W, bytes: &[u8]) -> bool {
     let mut at: usize = 0;
-    let mut left = u64::MAX;
-    while left > 0 {
+    for _ in 0..u64::MAX {
         if at == bytes.len() {
             return true;
         }
-        let got = libc::write(STDOUT_FILENO, &bytes[at..]);
-        if failed(got) {
-            return false;
+        match output.write(&bytes[at..]) {
+            Ok(0) => return false,
+            Ok(n) => at += n,
+            Err(e) => {
+                if !is_tried_again(clock, &e) {
+                    return false;
+                }
+            }
         }
-        at += io::count(got, &bytes[at..]);
-        left -= 1;
     }
     false
 }
 
-fn write_error(program: &[u8], what: &[u8]) {
-    io::write_all(STDERR_FILENO, program);
-    io::write_all(STDERR_FILENO, what);
+// Writes two texts, one after the other. What cannot be written is left out: there is no other place to say so.
+fn write_error<W: Write>(errors: &mut W, program: &[u8], what: &[u8]) {
+    if errors.write_all(program).is_ok() {
+        let _ = errors.write_all(what);
+    }
 }
 
 // Says on standard error why a run is over, where that is not the end of the input.
-pub fn explain(program: &[u8], progress: Progress) {
+pub fn explain<W: Write>(errors: &mut W, program: &[u8], progress: Progress) {
     match progress {
-        Progress::CannotRead => write_error(program, b": cannot read\n"),
-        Progress::CannotWrite => write_error(program, b": cannot write\n"),
+        Progress::CannotRead => write_error(errors, program, b": cannot read\n"),
+        Progress::CannotWrite => write_error(errors, program, b": cannot write\n"),
         Progress::At(_) => {}
         Progress::Ended => {}
     }
