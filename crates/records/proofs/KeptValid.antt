@@ -1,6 +1,6 @@
 -- Records that are not refused make a valid list of at most 64 entries whose thresholds are counts, since seconds and
 -- their nanoseconds have the same order.
-use mathlib.Core.Path.{◌≡◌, refl, sym, ◌∙◌}
+use mathlib.Core.Path.{◌≡◌, refl, sym, subst, ◌∙◌}
 use mathlib.Core.Bool.{Bool, true, false, cond, ◌||◌, true≢false}
 use mathlib.Core.List.{List, [], ◌∷◌, map}
 use mathlib.Core.Option.{Option}
@@ -85,8 +85,9 @@ valid-from s m (r ∷ rs) z =
     let h = both_zero (follow_refusal (pos s) m r.threshold r.offset)
     (order_from by_threshold r.threshold r.offset rs) z in
     let t = is_from_zero s m r.threshold r.offset h.0 in
-    rw (follows_on s m r.threshold r.offset h.0, t)
-    (valid-from (mag r.threshold) r.offset rs (rw t at h.1))
+    let rest = valid-from (mag r.threshold) r.offset rs (rw t at h.1) in
+    rw (follows_on s m r.threshold r.offset h.0)
+    (subst (λ (u : ℤ). valid (entry (nanos_of u) r.offset ∷ map entry_of rs) ≡ true) (sym t) rest)
 
 -- ---- thresholds that are counts
 is_count : (t : ℤ) → is_above t ≡ false → nanos_of t < 2 ^ 64
