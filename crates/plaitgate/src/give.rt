@@ -51,7 +51,7 @@ pub fn duration(answer: DurationAnswer, out: &mut i64) -> u32
 
 pub fn parts(answer: PartsAnswer, seconds: &mut u64, nanos: &mut u32) -> u32
     ensures { Gives (parts_of 0) (parts_in answer) result
-        (record { seconds = seconds.exit.now; nanos = nanos.new }) }
+        (record { seconds = seconds.new; nanos = nanos.new }) }
 {
     match answer {
         PartsAnswer::Parts(p) => {
