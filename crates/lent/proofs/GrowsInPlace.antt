@@ -7,7 +7,7 @@ use Rattle.lent.specs.contracts.try_extend as try_extend_call
 use Rattle.lent.proofs.inner.copied.extended_in_place.Reads as extended_in_place_contract
 
 -- `lent::try_extend`, of the table before and afterwards
-pub try_extend : Implies try_extend_call.ended (λ M 𝓤 H. try_extend_call.clauses 𝓤 H)
+pub try_extend : Implies try_extend_call.ended (λ M 𝓤 𝓛. try_extend_call.clauses 𝓛)
     (λ κ a r e. Extends a.0.now a.1.0 r e.0.now)
 try_extend M 𝓤 𝓛 mem run κ a g r e = fact_mono 𝓤 _ _ (extends a.0.now a.1.0 r e.0.now)
 

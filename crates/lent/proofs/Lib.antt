@@ -1,16 +1,6 @@
-pub mod Walking
-pub mod Locals
-pub mod LetGo
-pub mod Values
-pub mod CallInWalk
-pub mod CallOnLentList
 pub mod ByAnswer
 pub mod Passing
-pub mod LentEntries
 pub mod AnswersByPass
-pub mod Readers
-pub mod InALocal
-pub mod Prefix
 pub mod Agreement
 pub mod Stated
 pub mod Calls

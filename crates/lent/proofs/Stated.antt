@@ -1,11 +1,14 @@
--- A contract that states a fact, as the checker has it in a call's clauses. Of a call that is lent a struct the checker
--- makes no reading of its own, so the fact is named here and tied to the clauses.
+-- A contract that states a fact, as the checker has it in a call's clauses: the fact is named, and tied to the clauses.
+use mathlib.Core.Path.{◌≡◌}
+use seplogic.Ra.Ura.{Ura}
+use base.Logic.{SProp, ent}
+use prog.Memory.{Memory}
+use prog.Routine.{Routine}
 use types.Logic.{Logic}
 use contract.Lifetimes.{Lfts}
-use denote.Triple.Clauses.{AtExit}
-use denote.Triple.Entry.{Res}
-use Rattle.lent.proofs.Walking.{◌≡◌, Ura, SProp, ent, Memory, Routine, Fun, fact, Ended}
-use Rattle.lent.proofs.Walking.{Clauses, Args}
+use contract.Monad.{Fun, fact}
+use denote.Triple.Clauses.{AtExit, Ended, Clauses}
+use denote.Triple.Entry.{Args, Res}
 use Rattle.refusals.proofs.OneAnswer.{OneAnswer, OneAnswerAndEnd}
 
 module _ (T : Ended) where
