@@ -24,6 +24,10 @@ field_more k stride zero bs = rw mul-zero
 field_more k stride (suc n) bs =
     ap (λ (l : List ℕ). number_in (take k bs) ∷ l) (rw (← strides stride n bs) (field_more k stride n (drop stride bs)))
 
+-- a number as it is
+abbrev pub itself : ℕ → ℕ
+itself n = n
+
 -- the first i of 64 slots hold the first i numbers, and the next number is put into the slot after them
 pub record Kept {A : Type 0} (f : ℕ → A) (k stride start : ℕ) (b : List ℕ) (kept : List A) (i : ℕ) : Type 0 where
   pub size : length kept ≡ 64

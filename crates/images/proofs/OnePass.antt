@@ -156,5 +156,5 @@ module _ {b : List ℕ} {t n i before one_more place : ℕ} (p : Pass b t n i be
           let on : follows (slot b (i - 1)) (slot b i) ≡ true = rw (lt-ltb _ _ above, equal_yes _ _ one) in
           let passed =
           one_more_valid _ _ i (omega arith) (omega arith) p.some (omega arith) (omega arith) p.passes on in
-          let read : to_z w64 one_more ≡ offset (slot b i) = ap (to_z w64) (sym e) ∙ to_z-of_z (sfits_widen tt f) in
+          let read : to_z w64 one_more ≡ offset (slot b i) = ap (to_z w64) (sym e) ∙ to_z-of_z {w = w64} (sfits_widen tt f) in
           rw read (step p.opened t i p.reached place l f passed p.counted p.in_force_lem)

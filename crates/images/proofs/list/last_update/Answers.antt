@@ -1,0 +1,7 @@
+-- The answer is read off the pass, where the bytes are a list.
+use Rattle.std.proofs.Common.{◌∙◌}
+use Rattle.lent.proofs.AnswersByPass.{update_read}
+use Rattle.images.proofs.list.last_update.Goals as goal
+
+pub returns : goal.returns
+returns c = rw c.if-entries-ne0.false (c.update.ensures ∙ update_read 0 _ c.pass_over.result c.pass_over.ensures)

@@ -1,0 +1,7 @@
+-- The answer is read off the pass, where the bytes are a list.
+use Rattle.std.proofs.Common.{◌∙◌}
+use Rattle.lent.proofs.AnswersByPass.{length_read}
+use Rattle.images.proofs.list.len.Goals as goal
+
+pub returns : goal.returns
+returns c = rw c.if-entries-ne0.false (c.length.ensures ∙ length_read 0 _ c.pass_over.result c.pass_over.ensures)
