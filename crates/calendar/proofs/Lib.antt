@@ -2,6 +2,7 @@ pub mod Tested
 pub mod Sums
 pub mod MarchYears
 pub mod Months
+pub mod MonthStarts
 pub mod Eras
 pub mod Lifting
 pub mod TooEarly
