@@ -1,0 +1,17 @@
+-- `put_with_new`: the reader's answer on NEW tells which line is due.
+use Rattle.std.proofs.Common.{ap}
+use Rattle.tables.specs.Answers.{taken_in}
+use Rattle.leaplist.proofs.SinceLines.{new_accepted, new_refused}
+use Rattle.leaplist.proofs.inner.since.put_with_new.Goals as goal
+
+pub returns-in-Done : goal.returns-in-Done
+returns-in-Done c =
+    let a = c.args in
+    rw (new_accepted a.new.now c.read-read.result c.read-read.ensures a.old (ap taken_in c.in-Done.is)) c.put_alike.ensures
+
+pub returns-in-Refused : goal.returns-in-Refused
+returns-in-Refused c =
+    let a = c.args in
+    let refused = ap taken_in c.in-Refused.is in
+    rw (new_refused a.new.now c.read-read.result c.read-read.ensures a.old c.in-Refused.refusal refused)
+    c.put_refused_file.ensures
