@@ -32,7 +32,7 @@ use Rattle.civil.proofs.CivilTheorems.{RealFields, count_back, fields_back, fiel
 use Rattle.tables.specs.Entries.{Entry, day, on_days}
 use Rattle.conversions.specs.Conversions.{E, gps_to_utc, utc_to_gps}
 use Rattle.conversions.proofs.LeapSeconds.{LeapSeconds, leaps}
-use Rattle.conversions.proofs.OnNaturals.{tai, Reads, to_utc, from_gps, before-E, not_before_E, from-E, b}
+use Rattle.conversions.proofs.OnNaturals.{tai, Reads, to_utc, from_gps, before-E, not_before_E, from-E}
 use Rattle.readings.specs.Readings.{day_of_gps, reading_of, gps_to_civil, same_fields, utc_to_later, read_so}
 use Rattle.readings.specs.Readings.{civil_to_gps}
 use Rattle.readings.proofs.LaterEntries.{counted_on_days, on_days_lem}
