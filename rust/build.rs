@@ -27,8 +27,8 @@ fn handed_in(folder: PathBuf) -> PathBuf {
     folder
 }
 
-/// The folder of the archive for the target: `rt staticlib` makes one for x86-64, and on another machine the same proved
-/// module is compiled once more, for that machine.
+/// The folder of the archive for the target: `rt lib` makes one for x86-64, and on another machine the same proved
+/// code is compiled once more, for that machine.
 fn made_beside_this_crate() -> PathBuf {
     let target = env::var("CARGO_CFG_TARGET_ARCH").unwrap_or_default();
     let (tool, folder) = match target.as_str() {
