@@ -9,7 +9,7 @@ use Rattle.tables.specs.declared.TableAnswer.{TableAnswer}
 use Rattle.tables.specs.declared.Taken.{Taken}
 use Rattle.tables.specs.declared.Taken.TheVariants as taken
 use Rattle.tables.specs.declared.LengthAnswer.{LengthAnswer}
-use Rattle.tables.specs.declared.LengthAnswer.TheVariants as length
+use Rattle.tables.specs.declared.LengthAnswer.TheVariants as length_answer
 use Rattle.tables.specs.declared.EmptyAnswer.{EmptyAnswer}
 use Rattle.tables.specs.declared.EmptyAnswer.TheVariants as empty
 use Rattle.tables.specs.declared.EntryAnswer.{EntryAnswer}
@@ -33,8 +33,8 @@ abbrev pub table_answer_in : TableAnswer → ℕ × LeapTable
 table_answer_in x = (taken_in x.answer, x.table)
 
 abbrev pub length_in : LengthAnswer → Outcome ℕ
-length_in (length.Length n) = answered n
-length_in (length.Refused r) = refused (number_of r)
+length_in (length_answer.Length n) = answered n
+length_in (length_answer.Refused r) = refused (number_of r)
 
 abbrev pub empty_in : EmptyAnswer → Outcome Bool
 empty_in (empty.Empty b) = answered b
