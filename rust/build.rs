@@ -1,5 +1,5 @@
 //! Links the static library: the one in the folder that PLAITGATE_LIB_DIR names, else the one that Plaitgate's tools make
-//! in this repository. They make it anew where one of its sources is newer, which takes the Rattle kit and a minute or two
+//! in this repository. They make it anew where one of its sources is newer, which takes the Rattle kit and some minutes
 //! of proving. Where there is no kit, the archive that is there is linked as it is, with a warning.
 
 use std::env;
