@@ -18,7 +18,7 @@
  * or has a state: all may be called from any thread. Leap-second tables are bytes of the caller's own, called
  * images below; a function that is to change one says what it leaves there on a refusal.
  *
- * Link with libplaitgate.a (`tools/native-library` makes it for this machine, `rt staticlib plaitgate` for x86-64).
+ * Link with libplaitgate.a (`tools/native-library` makes it for this machine, `tools/library` for x86-64).
  */
 #ifndef PLAITGATE_H
 #define PLAITGATE_H
