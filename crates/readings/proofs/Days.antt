@@ -44,7 +44,7 @@ begun x (e ∷ es) b = go (eqb (threshold e) x) refl (begun x es) b
 
 begins-at : (x : ℕ) (es : List Entry) (e : Entry) → Memᴰ e es → threshold e ≡ x → some_begins_at x es ≡ true
 unfolding some_begins_at
-begins-at x [] e x3 is = elim x3 [ ]
+begins-at x [] e m is = elim m [ ]
 begins-at x (f ∷ es) e (Memᴰ.head q) is = rw (eq-eqb (threshold f) x (sym (ap threshold q) ∙ is))
 begins-at x (f ∷ es) e (Memᴰ.tail m) is = go (eqb (threshold f) x) (begins-at x es e m is)
   where

@@ -80,14 +80,14 @@ whole_days e n o l b =
 
 -- a later entry is a day after the first
 a_day_after : (p : Entry) (es : List Entry) {e : Entry} → Chain p es → Memᴰ e es → threshold p + day ≤ threshold e
-a_day_after p [] {e = e} c x'' = elim x'' [ ]
+a_day_after p [] {e = e} c m = elim m [ ]
 a_day_after p (f ∷ es) c (Memᴰ.head q) = omega (arith, ap threshold q)
 a_day_after p (f ∷ es) c (Memᴰ.tail m) = omega (arith, a_day_after f es c.2 m)
 
 on_days_in : (p : Entry) (es : List Entry) (n : ℕ) → Chain p es → offset p ≡ pos n → n + length es ≤ 82
     → neighbours (λ p e. begins_a_day e) (p ∷ es) ≡ true → (e : Entry) → Memᴰ e es → OnADay n (reached es) e
 unfolding neighbours reached
-on_days_in p [] n c o few d e x5 = elim x5 [ ]
+on_days_in p [] n c o few d e m = elim m [ ]
 on_days_in p (f ∷ es) n c o few d e (Memᴰ.head q) =
     let (begins, others) = both (begins_a_day f) (neighbours (λ p e. begins_a_day e) (f ∷ es)) d in
     let (j, is) = whole_days f (suc n) (c.1 ∙ rw o (ap pos (omega arith))) (omega arith) begins in
