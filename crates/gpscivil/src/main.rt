@@ -2,15 +2,21 @@
 // inserted second is 23:59:60.
 #![tactic(auto)]
 
-ghost use Rattle.std.specs.Prelude.{◌≡◌, ◌≤◌, ◌<◌, length, take};
+ghost use Rattle.std.specs.Prelude.{◌≡◌, ◌≤◌, ◌<◌, IfSome, length, take};
+ghost use Rattle.std.specs.Io.KnownBytes.{Appends};
+ghost use Rattle.texts.specs.Lines.{lines_of};
+ghost use Rattle.lines.specs.Lines.{answers};
 ghost use Rattle.lines.specs.Pieces.{AnswersBlock};
 ghost use Rattle.lines.specs.Places.{Within, Stands};
+ghost use Rattle.lines.specs.Streams.{IfEnded, AnswersOn};
 ghost use Rattle.line_answers.specs.Gpscivil.{answer_to};
 
 use line_answers::LONGEST_ANSWER;
 use line_answers::gpscivil::answer_line;
 use lines::inner::find::{Answered, keep, whole_line};
 use lines::inner::streams::{Place, Progress, explain, read_on, write_out};
+use std::io::{Read, Write};
+use std::time::Clock;
 use texts::inner::next_end;
 
 // How many bytes are read, and written, at a time.
@@ -49,8 +55,9 @@ fn answer_block(line: &mut [u8], used: usize, block: &[u8], out: &mut [u8]) -> A
 }
 
 // Answers the bytes of the block that are to be taken, as many as there is room for, and writes the answers.
-fn answer_and_write(
-    rt: &HostRuntime,
+fn answer_and_write<W: Write>(
+    clock: &impl Clock,
+    output: &mut W,
     line: &mut [u8],
     place: Place,
     block: &[u8],
@@ -58,13 +65,15 @@ fn answer_and_write(
 ) -> Progress
     requires line_len { length line.old ≡ 128 }
     requires within { Within (length block.now) place }
-    ensures { Stands (length block.now) result }
+    ensures bound { Stands (length block.now) result }
+    ensures answers { AnswersOn answer_to place line.old block.now line.new
+        (W.contents output.old) (W.contents output.new) result }
 {
     let at = place.at;
     let end = place.end;
     let done = answer_block(line, place.used, &block[at..end], out);
     let made = done.made;
-    if write_out(rt, &mut rt.stdout(), &out[0..made]) {
+    if write_out(clock, output, &out[0..made]) {
         Progress::At(Place {
             used: done.used,
             at: at + done.taken,
@@ -76,11 +85,21 @@ fn answer_and_write(
     }
 }
 
-// Reads, answers and writes until the input ends, or a read or a write fails. The u64::MAX budget exists only so that
-// the loop provably ends.
-fn run(rt: &HostRuntime, line: &mut [u8], block: &mut [u8], out: &mut [u8]) -> Progress
+// Reads, answers and writes until the input ends, or a read or a write fails. Where it ends, what is written is the
+// answers to the lines of the input, wherever the blocks cut them. The u64::MAX budget exists only so that the loop
+// provably ends.
+fn run<R: Read, W: Write>(
+    clock: &impl Clock,
+    input: &mut R,
+    output: &mut W,
+    line: &mut [u8],
+    block: &mut [u8],
+    out: &mut [u8],
+) -> Progress
     requires line_len { length line.old ≡ 128 }
     requires block_nonzero { 0 < length block.old }
+    ensures { IfEnded result (IfSome (R.remaining input.old) (λ all.
+        Appends (W.contents output.old) (W.contents output.new) (answers answer_to (lines_of all)))) }
 {
     let mut place = Place {
         used: 0,
@@ -89,11 +108,11 @@ fn run(rt: &HostRuntime, line: &mut [u8], block: &mut [u8], out: &mut [u8]) -> P
         over: false,
     };
     for _ in 0..u64::MAX {
-        let read = read_on(rt, &mut rt.stdin(), place, block);
+        let read = read_on(clock, input, place, block);
         let Progress::At(next) = read else {
             return read;
         };
-        let written = answer_and_write(rt, line, next, block, out);
+        let written = answer_and_write(clock, output, line, next, block, out);
         let Progress::At(after) = written else {
             return written;
         };
@@ -106,6 +125,13 @@ fn main(rt: HostRuntime) {
     let mut line = [0u8; 128];
     let mut block = [0u8; BUFFER_BYTES];
     let mut out = [0u8; BUFFER_BYTES];
-    let progress = run(&rt, &mut line, &mut block, &mut out);
+    let progress = run(
+        &rt,
+        &mut rt.stdin(),
+        &mut rt.stdout(),
+        &mut line,
+        &mut block,
+        &mut out,
+    );
     explain(&mut rt.stderr(), b"gpscivil", progress);
 }

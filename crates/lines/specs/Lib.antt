@@ -2,3 +2,4 @@ pub mod Lines
 pub mod OutcomeLine
 pub mod Pieces
 pub mod Places
+pub mod Streams

@@ -1,8 +1,13 @@
--- `run`. The invariant: no buffer changes its length, and the place is one of the block.
+-- `run`. The invariant: no buffer changes its length, the place is one of the block, and what is written so far are the
+-- answers to what is taken.
 use Rattle.std.proofs.Common.{◌≡◌, length}
 use Rattle.lines.specs.Places.{Within}
+use Rattle.lines.proofs.Runs.{Going}
+use Rattle.line_answers.specs.Gpscivil.{answer_to}
 use Rattle.gpscivil.proofs.run.Given as goal
 
 abbrev pub invariant-loop : goal.invariant-loop
-invariant-loop l =
+invariant-loop g l =
     (length l.line ≡ length l.fn.line) × (length l.block ≡ length l.fn.block) × Within (length l.block) l.place
+    × Going answer_to (g.R.Read.remaining l.fn.input) (g.R.Read.remaining l.input) (g.W.Write.contents l.fn.output)
+    (g.W.Write.contents l.output) l.line l.block l.place

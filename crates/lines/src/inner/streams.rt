@@ -1,10 +1,12 @@
 // An input read in blocks or whole, and an output written. A program's loop over blocks is: `read_on`, answer,
-// `write_out`.
-ghost use Rattle.std.specs.Prelude.{◌<◌, ◌≤◌, length};
-ghost use Rattle.std.specs.Io.{ReadsAtMost};
+// `write_out`. At a reader and a writer whose bytes are known, the contracts say which bytes move. Of those that the
+// system reads and writes no contract says anything.
+ghost use Rattle.std.specs.Prelude.{◌≡◌, ◌<◌, length, IsTrue};
+ghost use Rattle.std.specs.Io.KnownBytes.{Appends};
 ghost use Rattle.lines.specs.Places.{Within, Stands, Reads};
+ghost use Rattle.lines.specs.Streams.{IfKnown, ReadsOn, ReadsWhole};
 
-use std::io::{Error, ErrorKind, Read, Result, Write};
+use std::io::{Error, ErrorKind, Read, Write};
 use std::thread::sleep;
 use std::time::{Clock, Duration};
 use texts::inner::LINE_END;
@@ -51,52 +53,16 @@ fn is_tried_again(clock: &impl Clock, error: &Error) -> bool {
     }
 }
 
-// Where a run stands after a read from a place.
-fn after_read(clock: &impl Clock, place: Place, block: &mut [u8], got: Result<usize>) -> Progress
-    requires held { place.used ≤ 128 }
-    requires bound { ReadsAtMost got block.old }
-    requires block_nonzero { 0 < length block.old }
-    ensures { Stands (length block.old) result }
+// The place at the start of a block of which `end` bytes are to be taken.
+fn at_start(used: usize, end: usize, over: bool) -> Place
+    ensures { result ≡ record { used = used; at = 0; end = end; over = over } }
 {
-    match got {
-        Ok(0) => ended(place.used, block),
-        Ok(n) => Progress::At(Place {
-            used: place.used,
-            at: 0,
-            end: n,
-            over: false,
-        }),
-        Err(e) => {
-            if is_tried_again(clock, &e) {
-                Progress::At(Place {
-                    used: place.used,
-                    at: 0,
-                    end: 0,
-                    over: false,
-                })
-            } else {
-                Progress::CannotRead
-            }
-        }
-    }
-}
-
-// The end of the input ends a line that has begun: a line end in the block stands for it.
-fn ended(used: usize, block: &mut [u8]) -> Progress
-    requires held { used ≤ 128 }
-    requires block_nonzero { 0 < length block.old }
-    ensures { Stands (length block.old) result }
-{
-    if used == 0 {
-        return Progress::Ended;
-    }
-    block[0] = LINE_END;
-    Progress::At(Place {
+    Place {
         used: used,
         at: 0,
-        end: 1,
-        over: true,
-    })
+        end: end,
+        over: over,
+    }
 }
 
 // Reads a block where all bytes of the last one are taken. The end of the input ends a line that has begun: a line end
@@ -109,7 +75,9 @@ pub fn read_on<R: Read>(
 ) -> Progress
     requires within { Within (length block.old) place }
     requires block_nonzero { 0 < length block.old }
-    ensures { Stands (length block.old) result }
+    ensures bound { Stands (length block.old) result }
+    ensures bytes { IfKnown (R.remaining input.old) (R.remaining input.new)
+        (λ xs ys. ReadsOn place block.old block.new xs ys result) }
 {
     if place.at < place.end {
         return Progress::At(place);
@@ -117,13 +85,29 @@ pub fn read_on<R: Read>(
     if place.over {
         return Progress::Ended;
     }
-    let got = input.read(block);
-    after_read(clock, place, block, got)
+    match input.read(block) {
+        Ok(0) => {
+            if place.used == 0 {
+                return Progress::Ended;
+            }
+            block[0] = LINE_END;
+            Progress::At(at_start(place.used, 1, true))
+        }
+        Ok(n) => Progress::At(at_start(place.used, n, false)),
+        Err(e) => {
+            if is_tried_again(clock, &e) {
+                Progress::At(at_start(place.used, 0, false))
+            } else {
+                Progress::CannotRead
+            }
+        }
+    }
 }
 
 // Reads an input until it ends or the block is full. The u64::MAX budget exists only so that the loop provably ends.
 pub fn read_whole<R: Read>(clock: &impl Clock, input: &mut R, block: &mut [u8]) -> Input
-    ensures { Reads (length block.old) result }
+    ensures bound { Reads (length block.old) result }
+    ensures bytes { ReadsWhole (R.remaining input.old) (R.remaining input.new) block.new result }
 {
     let mut at: usize = 0;
     for _ in 0..u64::MAX {
@@ -144,7 +128,9 @@ pub fn read_whole<R: Read>(clock: &impl Clock, input: &mut R, block: &mut [u8]) 
 }
 
 // Writes bytes; whether all could be written. The u64::MAX budget exists only so that the loop provably ends.
-pub fn write_out<W: Write>(clock: &impl Clock, output: &mut W, bytes: &[u8]) -> bool {
+pub fn write_out<W: Write>(clock: &impl Clock, output: &mut W, bytes: &[u8]) -> bool
+    ensures { IsTrue result → Appends (W.contents output.old) (W.contents output.new) bytes.now }
+{
     let mut at: usize = 0;
     for _ in 0..u64::MAX {
         if at == bytes.len() {
@@ -165,9 +151,8 @@ pub fn write_out<W: Write>(clock: &impl Clock, output: &mut W, bytes: &[u8]) -> 
 
 // Writes two texts, one after the other. What cannot be written is left out: there is no other place to say so.
 fn write_error<W: Write>(errors: &mut W, program: &[u8], what: &[u8]) {
-    if errors.write_all(program).is_ok() {
-        let _ = errors.write_all(what);
-    }
+    let _ = errors.write_all(program);
+    let _ = errors.write_all(what);
 }
 
 // Says on standard error why a run is over, where that is not the end of the input.
