@@ -5,9 +5,11 @@
 
 mod inner;
 
-ghost use Rattle.std.specs.Prelude.{length};
+ghost use Rattle.std.specs.Prelude.{◌<◌, ◌≤◌, IfSome, length};
+ghost use Rattle.std.specs.Io.KnownBytes.{Appends};
 ghost use Rattle.lines.specs.OutcomeLine.{PutsWithRoom};
 ghost use Rattle.lines.specs.Places.{Reads};
+ghost use Rattle.lines.specs.Streams.{IfEnded};
 ghost use Rattle.leaplist.specs.Report.{report};
 ghost use Rattle.leaplist.specs.Since.{since_line};
 
@@ -17,6 +19,8 @@ use lines::inner::streams::{Input, Progress, explain, read_whole, write_out};
 use published::MOST_BYTES;
 use std::env::{Env, FillError};
 use std::fs::File;
+use std::io::{Read, Write};
+use std::time::Clock;
 use tables::Taken;
 
 // The longest report: 64 lines of at most 73 bytes, one of at most 39, and one of at most 29.
@@ -60,13 +64,24 @@ pub fn since(old: &[u8], new: &[u8], out: &mut [u8]) -> usize
     }
 }
 
-// Reads standard input, and writes the report on it.
-fn run(rt: &HostRuntime, block: &mut [u8], out: &mut [u8]) -> Progress {
-    let Input::Bytes(n) = read_whole(rt, &mut rt.stdin(), block) else {
+// Reads an input, and writes the report on it. The block has room for more than the longest file, so that of a longer
+// one enough is read to refuse it.
+fn run<R: Read, W: Write>(
+    clock: &impl Clock,
+    input: &mut R,
+    output: &mut W,
+    block: &mut [u8],
+    out: &mut [u8],
+) -> Progress
+    ensures { 65536 < length block.old → 4740 ≤ length out.old → IfEnded result
+        (IfSome (R.remaining input.old) (λ all.
+        Appends (W.contents output.old) (W.contents output.new) (report all))) }
+{
+    let Input::Bytes(n) = read_whole(clock, input, block) else {
         return Progress::CannotRead;
     };
     let made = report(&block[0..n], out);
-    if write_out(rt, &mut rt.stdout(), &out[0..made]) {
+    if write_out(clock, output, &out[0..made]) {
         Progress::Ended
     } else {
         Progress::CannotWrite
@@ -160,7 +175,13 @@ fn main(rt: HostRuntime) {
     let mut block = [0u8; MOST_BYTES + 1];
     let mut out = [0u8; OUTPUT_BYTES];
     if !has_word(&rt, 1) {
-        let progress = run(&rt, &mut block, &mut out);
+        let progress = run(
+            &rt,
+            &mut rt.stdin(),
+            &mut rt.stdout(),
+            &mut block,
+            &mut out,
+        );
         explain(&mut rt.stderr(), b"leaplist", progress);
         return;
     }
