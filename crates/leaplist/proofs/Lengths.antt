@@ -3,11 +3,13 @@ use mathlib.Core.Path.{◌≡◌, refl, sym, ap, ◌∙◌}
 use mathlib.Core.Bool.{Bool, true, false, cond}
 use mathlib.Core.List.{List, [], ◌∷◌, ◌++◌, append-nil, append_assoc}
 use Prim.Native.Nat.{ℕ, ◌+◌, ◌*◌, ◌-◌, ◌≤◌}
+use native.Mathlib.Nat.{sub-zero}
 use native.Mathlib.Omega.{arith}
-use borrow.Author.Tests.{ltb-false}
+use borrow.Author.Tests.{ltb-false, le-ltb}
 use lib.Dec.{eqb, ltb}
 use lib.IntN.{nat_abs}
-use lib.ListN.{length, get_or, length-append, length-take}
+use lib.ListN.{length, get_or, take, length-append, length-take}
+use lib.Seq.{sets-eq, take_at}
 use Rattle.words.specs.Decimal.{decimal}
 use Rattle.words.proofs.WayBack.{decimal_length}
 use Rattle.texts.specs.Lines.{lines_of}
@@ -15,7 +17,7 @@ use Rattle.civil.specs.Fields.{fields_at}
 use Rattle.stamps.specs.Form.{written}
 use Rattle.tables.specs.Entries.{Entry, threshold, offset, current_offset}
 use Rattle.tables.specs.Slots.{no_expiry}
-use Rattle.lines.specs.OutcomeLine.{PutsWithRoom}
+use Rattle.lines.specs.OutcomeLine.{Puts, PutsWithRoom}
 use Rattle.leaplist.specs.Report.{number_and, utc_second, entry_line, entry_lines, expires_word, none_word, expiry_line}
 use Rattle.leaplist.specs.Report.{dropped_word, table_report}
 use Rattle.leaplist.specs.Report.{all_text, quoted, at_line, start_of_line, place, refusal_report}
@@ -110,3 +112,10 @@ made_fits longest text out out' made short put = by_room (ltb (length out) longe
     by_room : (t : Bool) → ltb (length out) longest ≡ t → made ≡ length (cond t [] text) → made ≤ length out
     by_room true e is = omega (arith, is)
     by_room false e is = omega (arith, is, ltb-false (length out) longest e, short)
+
+-- and the bytes that are told are the text
+pub made_is : (longest : ℕ) (text out out' : List ℕ) (made : ℕ) → length text ≤ longest → longest ≤ length out
+    → PutsWithRoom longest text out out' made → take (made - 0) out' ≡ text
+made_is longest text out out' made short room put =
+    let puts : Puts text out out' made = rw (le-ltb (length out) longest room) at put in
+    rw (sub-zero made, puts.0, puts.1, sets-eq text out 0 (omega arith)) (take_at text _ (length text) refl)

@@ -1,13 +1,20 @@
 -- How long the report on a file is, and which report is due by what the reader answers.
 use mathlib.Core.Path.{◌≡◌, refl, sym, ap, subst, ◌∙◌}
 use mathlib.Core.Bool.{Bool, true, false, cond, ◌&&◌, true≢false}
-use mathlib.Core.List.{List}
-use Prim.Native.Nat.{ℕ, ◌≤◌}
+use mathlib.Core.List.{List, [], ◌∷◌, ◌++◌, append-nil}
+use Prim.Native.Nat.{ℕ, ◌+◌, ◌≤◌, ◌<◌}
+use native.Mathlib.Decide.{dec_le}
 use native.Mathlib.Omega.{arith}
-use borrow.Author.Tests.{leb-true, ne_eqb}
+use borrow.Author.Tests.{leb-true, ne_eqb, lt-ltb}
 use lib.Dec.{eqb, leb, ltb}
 use lib.IntN.{pos}
-use lib.ListN.{length, length-take}
+use lib.ListN.{length, take, length-append, length-take}
+use lib.Seq.{length-take-le}
+use Rattle.std.proofs.Common.{None, Some, IfSome}
+use Rattle.std.specs.Io.KnownBytes.{Appends, Consumes, IsAtEnd}
+use Rattle.std.specs.declared.option.Option.{Option}
+use Rattle.words.specs.Decimal.{decimal}
+use Rattle.lines.specs.OutcomeLine.{refused_word}
 use Rattle.refusals.specs.Number.{number_of}
 use Rattle.refusals.specs.declared.Refusal.{Refusal}
 use Rattle.refusals.proofs.Tells.{number_not_zero}
@@ -77,3 +84,27 @@ module _ (bs : List ℕ) (x : ListAnswer) (is : reading_in x ≡ list_read bs) w
       → report bs ≡ refusal_report (number_of r) x.line bs
   unfolding report
   report_refused r e = ap (report_of bs) (sym is) ∙ rw (e, ne_eqb (number_of r) 0 (number_not_zero r))
+
+-- ---- the report on what is read of an input
+-- a file that is too long is refused, whatever its bytes are
+long_report : (bs : List ℕ) → 65_536 < length bs → report bs ≡ refused_word ++ (decimal 12 ++ (10 ∷ []))
+unfolding report
+long_report bs h = rw (lt-ltb 65_536 (length bs) h)
+
+-- the report on the first bytes is that on all, where they are all, or more than the longest file has
+pub report_read : (a b old new : Option (List ℕ)) (block : List ℕ) (n : ℕ) → n ≤ length block → 65_536 < length block
+    → Consumes a b (take n block) → (n < length block → IsAtEnd b) → Appends old new (report (take n block))
+    → IfSome a (λ all. Appends old new (report all))
+report_read None b old new block n inside long first end put = tt
+report_read (Some all) None old new block n inside long first end put = absurd first
+report_read (Some all) (Some rest) old new block n inside long first end put = by_length (dec_le (length block) n)
+  where
+    by_length : Dec (length block ≤ n) → Appends old new (report all)
+    by_length (yes h) =
+        let read : length (take n block) ≡ n = length-take-le n block inside in
+        let much : length all ≡ n + length rest = ap length first ∙ length-append (take n block) rest ∙ ap (λ (k : ℕ). k + length rest) read in
+        let same = long_report (take n block) (omega (arith, read, h)) ∙ sym (long_report all (omega (arith, much, h))) in
+        subst (λ (t : List ℕ). Appends old new t) same put
+    by_length (no h) =
+        let whole : all ≡ take n block = first ∙ rw (end (omega (arith, h))) (append-nil (take n block)) in
+        subst (λ (t : List ℕ). Appends old new (report t)) (sym whole) put
