@@ -175,13 +175,7 @@ fn main(rt: HostRuntime) {
     let mut block = [0u8; MOST_BYTES + 1];
     let mut out = [0u8; OUTPUT_BYTES];
     if !has_word(&rt, 1) {
-        let progress = run(
-            &rt,
-            &mut rt.stdin(),
-            &mut rt.stdout(),
-            &mut block,
-            &mut out,
-        );
+        let progress = run(&rt, &mut rt.stdin(), &mut rt.stdout(), &mut block, &mut out);
         explain(&mut rt.stderr(), b"leaplist", progress);
         return;
     }

@@ -9,11 +9,12 @@ returns-then-end-s c =
     let s = c.args.s.now in
     let at = c.loop-left.at in
     let asked = c.args.line - 1 in
-    let h = end-within s at c.loop-left.invariant.1 in
-    (rw c.next_end-end.ensures
-        (ends s at (asked - c.loop-left.left) asked c.loop-left.invariant.0
-        (omega (arith, c.next_end-end.ensures)) (omega arith)),
-      omega arith)
+    let h = end-within s at c.loop-left.invariant.1 in (
+      rw c.next_end-end.ensures
+          (ends s at (asked - c.loop-left.left) asked c.loop-left.invariant.0
+          (omega (arith, c.next_end-end.ensures)) (omega arith)),
+      omega arith,
+    )
 
 pub overflow_add-at : goal.overflow_add-at
 overflow_add-at c =
@@ -24,8 +25,9 @@ loop-left-preserved c =
     let s = c.args.s.now in
     let at = c.loop-left.at in
     let asked = c.args.line - 1 in
-    let h = end-within s at c.loop-left.invariant.1 in
-    (rw c.next_end-end.ensures
-        (goes_on s at (asked - c.loop-left.left) (asked - (c.loop-left.left - 1)) c.loop-left.invariant.0 (omega arith)),
+    let h = end-within s at c.loop-left.invariant.1 in (
+      rw c.next_end-end.ensures
+          (goes_on s at (asked - c.loop-left.left) (asked - (c.loop-left.left - 1)) c.loop-left.invariant.0 (omega arith)),
       omega (arith, h, c.next_end-end.ensures),
-      omega arith)
+      omega arith,
+    )
