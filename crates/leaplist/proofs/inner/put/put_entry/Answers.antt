@@ -1,5 +1,5 @@
 -- `put_entry`: the form, a space, and the two numbers, each from where the part before ends.
-use Rattle.std.proofs.Common.{◌≡◌, ℕ, ◌+◌, ◌/◌, List, [], ◌∷◌, ◌++◌, refl, sym, ap, subst, ◌∙◌, length-set, arith, rules}
+use Rattle.std.proofs.Common.{◌≡◌, ℕ, ◌+◌, ◌/◌, List, [], ◌∷◌, ◌++◌, refl, sym, ap, subst, ◌∙◌, length-set, arith}
 use Rattle.std.proofs.lemmas.List.Edits.{sets}
 use lib.IntN.{ℤ, nat_abs}
 use lib.ListN.{set}

@@ -1,5 +1,5 @@
 -- `is_text`: one byte more is looked at, and none is left at the end.
-use Rattle.std.proofs.Common.{◌≡◌, ℕ, ◌&&◌, List, drop, sym, ap, ◌∙◌, add-one, drop-cons, drop_of_length-le, arith}
+use Rattle.std.proofs.Common.{ℕ, ◌&&◌, List, sym, ap, ◌∙◌, add-one, drop-cons, drop_of_length-le, arith}
 use mathlib.Core.Bool.{and-true, and_assoc}
 use Rattle.leaplist.specs.Report.{all_text}
 use Rattle.leaplist.proofs.inner.quote.is_text.Goals as goal

@@ -1,6 +1,5 @@
 -- `line_place`: the line after the one at a place begins past its end.
-use Rattle.std.proofs.Common.{◌≡◌, ℕ, ◌-◌, drop, ap, ◌∙◌, arith}
-use Rattle.texts.specs.Lines.{lines_of}
+use Rattle.std.proofs.Common.{◌-◌, arith}
 use Rattle.leaplist.proofs.LineStarts.{end-within, goes_on, ends}
 use Rattle.leaplist.proofs.inner.quote.line_place.Goals as goal
 
