@@ -36,7 +36,7 @@ pub extern "C" fn plaitgate_beidou_as_seconds(count: u64, seconds: &mut u64) -> 
 #[unsafe(no_mangle)]
 pub extern "C" fn plaitgate_beidou_as_parts(count: u64, seconds: &mut u64, nanos: &mut u32) -> u32
     ensures { Gives (parts_of 0) (answered (parts_of count)) result
-        (record { seconds = seconds.exit.now; nanos = nanos.new }) }
+        (record { seconds = seconds.new; nanos = nanos.new }) }
 {
     plaitgate::beidou::plaitgate_beidou_as_parts(count, seconds, nanos)
 }
