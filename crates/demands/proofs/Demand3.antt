@@ -1,4 +1,4 @@
--- Demand 3: by their contracts the calls of a pair answer what `gpsToUtc` and `utcToGps` say, and WayBack.antt proves
+-- Demand 3: by their contracts the calls of a pair answer what `gps_to_utc` and `utc_to_gps` say, and WayBack.antt proves
 -- it of these. specs/OfCalls.antt names the pairs, specs/TwoInstants.antt says what is proved.
 use mathlib.Core.Path.{◌≡◌, refl, sym, ap, ◌∙◌}
 use mathlib.Core.Bool.{Bool, true}

@@ -1,4 +1,4 @@
--- Civil readings of calls: by their contracts they answer what `gpsToCivil` and `civilToGps` say, and CivilReadings.antt
+-- Civil readings of calls: by their contracts they answer what `gps_to_civil` and `civil_to_gps` say, and CivilReadings.antt
 -- proves it of these. specs/OfReadings.antt names the pairs, specs/CivilReadings.antt says what is proved.
 use mathlib.Core.Path.{◌≡◌, sym, ap, ◌∙◌}
 use mathlib.Core.Bool.{true}

@@ -1,5 +1,5 @@
 -- What the expiry of a table never does, and when a table stays stale. Each call with a table says by its contract
--- `byTable`, or `datedByImage`, with the TAI reading that it looked up last and with what it answers by the entries.
+-- `by_table`, or `dated_by_image`, with the TAI reading that it looked up last and with what it answers by the entries.
 use Rattle.std.specs.Prelude.{◌≡◌, Bool, true, false, List, [], ◌∷◌, ℕ, ◌+◌, ◌*◌, ◌-◌, ◌^◌, ◌≤◌, ◌<◌, pos}
 use Rattle.refusals.specs.Outcome.{Outcome, answered, refused}
 use Rattle.counts.specs.Units.{second}

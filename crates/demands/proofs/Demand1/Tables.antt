@@ -40,7 +40,7 @@ from-lists κ a x e = left_on_refusal (building_refused (paired a.0.now a.1.0.no
 
 -- in place, of the fact that the call's contract states
 pub try_extend_in_place : (says : Fact lent_try_extend.ended)
-    × States lent_try_extend.ended (λ M 𝓤 H. lent_try_extend.clauses 𝓤 H) says
+    × States lent_try_extend.ended (λ M 𝓤 𝓛. lent_try_extend.clauses 𝓛) says
     × TableKept says (λ κ r. taken_in r) (λ κ r e. e.0.now) (λ κ a. a.0.now)
 try_extend_in_place = (
   λ κ a r e. (taken_in r, e.0.now) ≡ extended a.0.now a.1.0,
