@@ -8,7 +8,7 @@ use native.Mathlib.Omega.{arith}
 use borrow.Author.Tests.{eq-eqb, ltb-true}
 use lib.Dec.{eqb, leb, ltb}
 use lib.ListN.{length, drop}
-use lib.IntN.{ℤ, pos, ◌+ℤ◌}
+use lib.IntN.{pos, ◌+ℤ◌}
 use Rattle.refusals.specs.Outcome.{value_in}
 use Rattle.tables.specs.Entries.{Entry, threshold, offset, equal, regular, last_or, join_refusal, neighbours, lookup, in_force}
 use Rattle.tables.proofs.Integers.{equal_true}
