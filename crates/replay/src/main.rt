@@ -52,7 +52,10 @@ const BUFFER_BYTES: usize = 65_536;
 fn main(rt: HostRuntime) -> io::Result<()> {
     let mut block = [0u8; BUFFER_BYTES];
     let reading = read_all(&rt, &mut block);
-    println!(rt; "{} recorded answers agree, {} differ", reading.agreed, reading.differed)?;
+    println!(rt;
+        "{} recorded answers agree, {} differ",
+        reading.agreed, reading.differed
+    )?;
     if 0 < reading.first {
         println!(rt; "the first that differs is line {}", reading.first)?;
     }

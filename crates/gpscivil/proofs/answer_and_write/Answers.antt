@@ -1,5 +1,4 @@
 -- `answer_and_write`: what is written are the answers to what is taken.
-use Rattle.std.proofs.Common.{refl}
 use Rattle.lines.proofs.Runs.{block_answered}
 use Rattle.gpscivil.proofs.answer_and_write.Goals as goal
 
