@@ -1,6 +1,6 @@
 -- Written by tools/write-scales from its template in tools/templates.
 -- Demand 3 of the calls between UTC and a scale at a fixed difference: by their contracts they answer what
--- `shiftedToUtc` and `utcToShifted` say, and Shifted.antt proves it of these for any difference.
+-- `shifted_to_utc` and `utc_to_shifted` say, and Shifted.antt proves it of these for any difference.
 use mathlib.Core.Path.{refl, sym, ap, ◌∙◌}
 use Prim.Native.Nat.{◌+◌}
 use Rattle.refusals.specs.Outcome.{value_in, then}
