@@ -95,8 +95,9 @@ fn put_expiry(out: &mut [u8], at: usize, expiry: u64, offset: u64) -> usize
     requires { at + 39 ≤ length out.old }
     ensures { PutsAt at (expiry_line expiry offset) out.old out.new result }
 {
+    let none = expiry == NO_EXPIRY;
     put_bytes(out, at, b"expires ");
-    if expiry == NO_EXPIRY {
+    if none {
         put_bytes(out, at + 8, b"none\n");
         return at + 13;
     }

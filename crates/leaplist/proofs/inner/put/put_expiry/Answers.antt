@@ -32,11 +32,11 @@ stamp_puts {x} {y} out at e n f some is word form =
     (subst (λ (g : CivilDateTime). PutsAt at (expires_word ++ (written g ++ (10 ∷ []))) out (set y (at + 38) 10) (at + 39))
     is put)
 
-pub returns-then-expiry-eq-NO_EXPIRY : goal.returns-then-expiry-eq-NO_EXPIRY
-returns-then-expiry-eq-NO_EXPIRY c =
+pub returns-then-none : goal.returns-then-none
+returns-then-none c =
     let a = c.args in
-    none_puts a.out.now a.at a.expiry a.offset c.if-expiry-eq-NO_EXPIRY.true c.put_bytes.ensures
-    c.put_bytes-then-expiry-eq-NO_EXPIRY.ensures
+    none_puts a.out.now a.at a.expiry a.offset c.if-none.true c.put_bytes.ensures
+    c.put_bytes-then-none.ensures
 
 pub put-requires-clause-fits : goal.put-requires-clause-fits
 put-requires-clause-fits c =
@@ -48,5 +48,5 @@ pub returns : goal.returns
 returns c =
     let a = c.args in
     let is = c.fields_at.ensures ∙ ap (λ (u : ℕ). fields_at u 0) c.utc_second.ensures in
-    stamp_puts a.out.now a.at a.expiry a.offset c.fields_at.result c.if-expiry-eq-NO_EXPIRY.false is
+    stamp_puts a.out.now a.at a.expiry a.offset c.fields_at.result c.if-none.false is
     c.put_bytes.ensures c.put.ensures
