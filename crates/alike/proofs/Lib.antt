@@ -1,3 +1,2 @@
 pub mod Parted
-pub mod Tells
 pub mod Calls

@@ -1,23 +1,23 @@
 // Two tables in bytes. They are copied: who asks is about to push a table, and not to convert by it.
 ghost use Rattle.std.specs.Prelude.{◌≡◌};
+ghost use Rattle.refusals.specs.Outcome.{outcome_in};
 ghost use Rattle.images.specs.Image.{by_image};
 ghost use Rattle.alike.specs.Alike.{alike};
-ghost use Rattle.alike.specs.Answers.{alike_in};
 
-use crate::{AlikeAnswer, by_value};
+use crate::by_value;
 use images::inner::{IMAGE_BYTES, table_in};
 use refusals::Refusal;
 
 // Refuses as `by_value::alike`.
-pub fn alike<'a>(old: &'a [u8], new: &'a [u8]) -> AlikeAnswer
-    ensures { alike_in result ≡
+pub fn alike<'a>(old: &'a [u8], new: &'a [u8]) -> Result<Alike, Refusal>
+    ensures { outcome_in result ≡
         by_image old.now (λ es. by_image new.now (λ fs. alike es fs)) }
 {
     if old.len() != IMAGE_BYTES {
-        return AlikeAnswer::Refused(Refusal::BadTable);
+        return Err(Refusal::BadTable);
     }
     if new.len() != IMAGE_BYTES {
-        return AlikeAnswer::Refused(Refusal::BadTable);
+        return Err(Refusal::BadTable);
     }
     by_value::alike(table_in(old), table_in(new))
 }

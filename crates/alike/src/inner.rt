@@ -2,15 +2,13 @@
 ghost use Rattle.std.specs.Prelude.{◌≡◌, true, ◌&&◌};
 ghost use Rattle.tables.specs.Entries.{regular};
 ghost use Rattle.tables.specs.Slots.{entries_of, valid_table};
-ghost use Rattle.refusals.specs.Outcome.{changed};
-ghost use Rattle.counts.specs.Answers.{count_in};
+ghost use Rattle.refusals.specs.Outcome.{changed, outcome_in};
 ghost use Rattle.alike.specs.Alike.{same_entry, earlier, counts, counts_from, parting, told};
 ghost use Rattle.alike.specs.declared.Alike.TheVariants as how;
-ghost use Rattle.alike.specs.Answers.{alike_in, counts_in};
 
-use crate::{Alike, AlikeAnswer, Counts};
+use crate::{Alike, Counts};
 use conversions::inner::{steps, utc_minus_tai};
-use counts::{CountAnswer, Duration, sums, units};
+use counts::{Duration, sums, units};
 use refusals::Refusal;
 use scales::gps_tai::TAI_MINUS_GPS_NS;
 use tables::inner::{is_regular, slot};
@@ -24,11 +22,6 @@ pub enum Parting {
     Apart(LeapEntry),
 }
 
-#[derive(Clone, Copy)]
-pub enum CountsAnswer {
-    Counts(Counts),
-    Refused(Refusal),
-}
 
 fn same_entry(one: LeapEntry, other: LeapEntry) -> bool
     ensures { result ≡ same_entry one other }
@@ -89,63 +82,63 @@ pub fn both_regular(old: LeapTable, new: LeapTable) -> bool
 }
 
 // The GPS count at an entry's threshold, and the UTC count one second past its event.
-fn counts_from(entry: LeapEntry) -> CountsAnswer
-    ensures { counts_in result ≡ counts_from entry }
+fn counts_from(entry: LeapEntry) -> Result<Counts, Refusal>
+    ensures { outcome_in result ≡ counts_from entry }
 {
     let shift = utc_minus_tai(entry.tai_minus_utc);
     let event = sums::later(entry.tai_nanos, Duration(shift));
     let past = steps::up(event, units::NANOS_PER_SECOND);
     match sums::minus(entry.tai_nanos, TAI_MINUS_GPS_NS) {
-        CountAnswer::Count(gps) => with_utc(gps, past),
-        CountAnswer::Refused(why) => CountsAnswer::Refused(why),
+        Ok(gps) => with_utc(gps, past),
+        Err(why) => Err(why),
     }
 }
 
-fn with_utc(gps: u64, utc: CountAnswer) -> CountsAnswer
-    ensures { counts_in result ≡ changed (counts gps) (count_in utc) }
+fn with_utc(gps: u64, utc: Result<u64, Refusal>) -> Result<Counts, Refusal>
+    ensures { outcome_in result ≡ changed (counts gps) (outcome_in utc) }
 {
     match utc {
-        CountAnswer::Count(utc) => CountsAnswer::Counts(Counts { gps, utc }),
-        CountAnswer::Refused(why) => CountsAnswer::Refused(why),
+        Ok(utc) => Ok(Counts { gps, utc }),
+        Err(why) => Err(why),
     }
 }
 
-fn before(found: CountsAnswer) -> AlikeAnswer
-    ensures { alike_in result ≡ changed how.Before (counts_in found) }
+fn before(found: Result<Counts, Refusal>) -> Result<Alike, Refusal>
+    ensures { outcome_in result ≡ changed how.Before (outcome_in found) }
 {
     match found {
-        CountsAnswer::Counts(counts) => AlikeAnswer::Told(Alike::Before(counts)),
-        CountsAnswer::Refused(why) => AlikeAnswer::Refused(why),
+        Ok(counts) => Ok(Alike::Before(counts)),
+        Err(why) => Err(why),
     }
 }
 
-fn apart(found: CountsAnswer) -> AlikeAnswer
-    ensures { alike_in result ≡ changed how.Apart (counts_in found) }
+fn apart(found: Result<Counts, Refusal>) -> Result<Alike, Refusal>
+    ensures { outcome_in result ≡ changed how.Apart (outcome_in found) }
 {
     match found {
-        CountsAnswer::Counts(counts) => AlikeAnswer::Told(Alike::Apart(counts)),
-        CountsAnswer::Refused(why) => AlikeAnswer::Refused(why),
+        Ok(counts) => Ok(Alike::Apart(counts)),
+        Err(why) => Err(why),
     }
 }
 
 // What is told of where two lists part, which are both regular or not.
-pub fn told(regular: bool, at: Parting) -> AlikeAnswer
-    ensures { alike_in result ≡ told regular at }
+pub fn told(regular: bool, at: Parting) -> Result<Alike, Refusal>
+    ensures { outcome_in result ≡ told regular at }
 {
     match at {
-        Parting::Nowhere => AlikeAnswer::Told(Alike::Everywhere),
+        Parting::Nowhere => Ok(Alike::Everywhere),
         Parting::Onward(entry) => {
             if regular {
                 before(counts_from(entry))
             } else {
-                AlikeAnswer::Told(Alike::Irregular)
+                Ok(Alike::Irregular)
             }
         }
         Parting::Apart(entry) => {
             if regular {
                 apart(counts_from(entry))
             } else {
-                AlikeAnswer::Told(Alike::Irregular)
+                Ok(Alike::Irregular)
             }
         }
     }

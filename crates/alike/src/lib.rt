@@ -28,8 +28,3 @@ pub enum Alike {
     Irregular,
 }
 
-#[derive(Clone, Copy)]
-pub enum AlikeAnswer {
-    Told(Alike),
-    Refused(Refusal),
-}

@@ -5,10 +5,9 @@ pub mod Beidou
 -- end of shifted scales
 
 use mathlib.Core.Path.{sym, ◌∙◌}
+use Rattle.refusals.proofs.Tells.{outcome_tells}
 use Rattle.refusals.proofs.OneAnswer.{OneAnswer, viewed}
 use Rattle.scales.proofs.Tells.{gps_tells, utc_tells, glonass_tells}
-use Rattle.conversions.proofs.Tells.{unix_tells}
-use Rattle.builtin.proofs.Tells.{event_tells}
 use Rattle.builtin.proofs.events.entry_of_event.Reads as entry_of_event_contract
 use Rattle.builtin.proofs.epochs.ScaleEpoch.leap_seconds.Reads as leap_seconds_contract
 use Rattle.builtin.proofs.from_builtin.Reads as from_builtin_contract
@@ -19,6 +18,8 @@ use Rattle.builtin.proofs.glonass_to_gps.Reads as glonass_to_gps_contract
 use Rattle.builtin.proofs.gps_to_glonass.Reads as gps_to_glonass_contract
 use Rattle.builtin.proofs.gps_from_unix_seconds.Reads as gps_from_unix_seconds_contract
 use Rattle.builtin.proofs.gps_as_unix_seconds.Reads as gps_as_unix_seconds_contract
+use Rattle.scales.specs.declared.galileo.Galileo.{Galileo}
+use Rattle.scales.specs.declared.beidou.Beidou.{Beidou}
 
 pub from-builtin : OneAnswer from_builtin_contract.Post
 from-builtin κ a x y e f p q = p ∙ sym q
@@ -42,10 +43,10 @@ pub gps_from_unix_seconds : OneAnswer gps_from_unix_seconds_contract.Post
 gps_from_unix_seconds κ a x y e f p q = viewed gps_tells x y p q
 
 pub gps_as_unix_seconds : OneAnswer gps_as_unix_seconds_contract.Post
-gps_as_unix_seconds κ a x y e f p q = viewed unix_tells x y p q
+gps_as_unix_seconds κ a x y e f p q = viewed outcome_tells x y p q
 
 pub entry_of_event_lem : OneAnswer entry_of_event_contract.Post
-entry_of_event_lem κ a x y e f p q = viewed event_tells x y p q
+entry_of_event_lem κ a x y e f p q = viewed outcome_tells x y p q
 
 pub leap-seconds : OneAnswer leap_seconds_contract.Post
 leap-seconds κ a x y e f p q = p ∙ sym q

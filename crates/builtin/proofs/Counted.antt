@@ -1,4 +1,5 @@
 -- What is in force by the built-in table is told by the number of events that the reading has passed.
+use Rattle.std.specs.Prelude.{Option, Some}
 use mathlib.Core.Path.{◌≡◌, refl, ap, ◌∙◌}
 use mathlib.Core.Bool.{cond}
 use mathlib.Core.List.{List, [], ◌∷◌, map}
@@ -12,8 +13,6 @@ use lib.IntN.{pos}
 use lib.ListN.{length, drop}
 use Rattle.calendar.specs.Formula.{formula, era, yoe, doy, doe}
 use Rattle.tables.specs.Entries.{Entry, threshold, entry, neighbours, first_threshold, lookup}
-use Rattle.tables.specs.declared.Place.TheVariants as place
-use Rattle.tables.specs.declared.Threshold.{Threshold}
 use Rattle.tables.proofs.Reached as entries
 use Rattle.builtin.specs.Builtin.{builtin, events, threshold_of, entries_from}
 use Rattle.builtin.specs.Reached.{count_reached, event_thresholds, first_of, told_at}
@@ -62,7 +61,7 @@ unfolding builtin first later lookup
 in_force_lem t =
     let k = entries.reached later t in
     (rw (zero-add k) at (entries.by_number first later t 0 19 chained refl))
-    ∙ ap (λ (y : Threshold). record { offset = pos (19 + k); place = place.At k; next = y })
+    ∙ ap (λ (y : Option ℕ). record { offset = pos (19 + k); place = Some k; next = y })
     (next_of k later ∙ ap (λ (xs : List ℕ). first_of (drop k xs)) thresholds_are)
 
 pub counted : (t : ℕ) → lookup builtin t ≡ told_at (count_reached t event_thresholds)

@@ -4,5 +4,4 @@ pub mod OneLookup
 pub mod Buckets
 pub mod EventEntries
 pub mod EpochConstants
-pub mod Tells
 pub mod Calls

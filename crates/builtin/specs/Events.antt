@@ -1,7 +1,6 @@
 -- The entry of a leap-second event, from its UTC date and its new offset, and TAI − UTC at the epochs.
 use Rattle.std.specs.Prelude.{cond, List, [], ◌∷◌, ℕ, ◌+◌, ℤ, pos}
 use Rattle.std.specs.Int.Signed.{le_z}
-use Rattle.refusals.specs.Number.{number_of}
 use Rattle.refusals.specs.Outcome.{Outcome, answered, refused, then}
 use Rattle.counts.specs.Exact.{count_of}
 use Rattle.calendar.specs.Calendar.{Date}
@@ -12,14 +11,8 @@ use Rattle.civil.specs.Fields.{fields, count_at}
 use Rattle.civil.specs.declared.CivilDateTime.{CivilDateTime}
 use Rattle.tables.specs.Entries.{Entry, entry}
 use Rattle.builtin.specs.Builtin.{events, threshold_of}
-use Rattle.builtin.specs.declared.events.EventAnswer.{EventAnswer}
-use Rattle.builtin.specs.declared.events.EventAnswer.TheVariants as event
 use Rattle.builtin.specs.declared.epochs.ScaleEpoch.{ScaleEpoch}
 use Rattle.builtin.specs.declared.epochs.ScaleEpoch.TheVariants.{Gps, Glonass, Galileo, Beidou}
-
-abbrev pub event_in : EventAnswer → Outcome Entry
-event_in (event.Entry e) = answered e
-event_in (event.Refused r) = refused (number_of r)
 
 abbrev pub midnight : Date → CivilDateTime
 midnight d = fields d.year d.month d.day 0 0 0 0

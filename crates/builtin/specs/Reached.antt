@@ -1,9 +1,6 @@
 -- How many thresholds a reading has passed: only the contracts of private functions speak of it.
-use Rattle.std.specs.Prelude.{cond, List, [], ◌∷◌, ℕ, ◌+◌, ◌*◌, ◌^◌, ◌≤◌, ◌<◌, leb, eqb, pos, get_or, drop}
+use Rattle.std.specs.Prelude.{cond, List, [], ◌∷◌, ℕ, ◌+◌, ◌*◌, ◌^◌, ◌≤◌, ◌<◌, leb, eqb, pos, get_or, drop, None, Option, Some}
 use Rattle.tables.specs.declared.Lookup.{Lookup}
-use Rattle.tables.specs.declared.Place.TheVariants as place
-use Rattle.tables.specs.declared.Threshold.{Threshold}
-use Rattle.tables.specs.declared.Threshold.TheVariants as next
 
 unfoldable pub count_reached : ℕ → List ℕ → ℕ
 count_reached t [] = 0
@@ -19,21 +16,21 @@ event_thresholds =
     1_119_744_036_000_000_000 ∷ 1_167_264_037_000_000_000 ∷ []
 
 -- the first of some thresholds
-abbrev pub first_of : List ℕ → Threshold
-first_of [] = next.Nothing
-first_of (x ∷ xs) = next.At x
+abbrev pub first_of : List ℕ → Option ℕ
+first_of [] = None
+first_of (x ∷ xs) = Some x
 
 -- the threshold of an event, counted from 0; 0 past the last
 abbrev pub event_at : ℕ → ℕ
 event_at event = get_or event_thresholds event 0
 
 -- the threshold after as many events
-abbrev pub event_after : ℕ → Threshold
+abbrev pub event_after : ℕ → Option ℕ
 event_after events = first_of (drop events event_thresholds)
 
 -- what is in force from an event on; 0 stands for the first entry
 abbrev pub told_at : ℕ → Lookup
-told_at event = record { offset = pos (19 + event); place = place.At event; next = event_after event }
+told_at event = record { offset = pos (19 + event); place = Some event; next = event_after event }
 
 -- the UTC counts a second past each event
 unfoldable pub past_events : List ℕ

@@ -8,33 +8,32 @@ ghost use Rattle.builtin.specs.Builtin.{builtin};
 
 use crate::inner::shifted::{shifted_from_glonass, shifted_from_utc, utc_from_shifted};
 use conversions::inner::steps;
-use counts::CountAnswer;
-use scales::beidou::{Beidou, BeidouAnswer};
-use scales::glonass::{Glonass, GlonassAnswer};
-use scales::utc::{Utc, UtcAnswer};
+use scales::beidou::Beidou;
+use scales::glonass::Glonass;
+use scales::utc::Utc;
 
-pub fn beidou_to_utc(beidou: Beidou) -> UtcAnswer
+pub fn beidou_to_utc(beidou: Beidou) -> Result<Utc, Refusal>
     ensures { utc_in result ≡ shifted_to_utc gps_minus_beidou builtin beidou.0 }
 {
-    UtcAnswer::of(utc_from_shifted(CountAnswer::Count(beidou.0), Beidou::BEHIND_GPS_NS))
+    UtcAnswer::of(utc_from_shifted(Ok(beidou.0), Beidou::BEHIND_GPS_NS))
 }
 
 // Where two BeiDou counts share a UTC count it is the first.
-pub fn utc_to_beidou(utc: Utc) -> BeidouAnswer
+pub fn utc_to_beidou(utc: Utc) -> Result<Beidou, Refusal>
     ensures { beidou_in result ≡ utc_to_shifted gps_minus_beidou builtin utc.0 }
 {
-    BeidouAnswer::of(shifted_from_utc(CountAnswer::Count(utc.0), Beidou::BEHIND_GPS_NS))
+    BeidouAnswer::of(shifted_from_utc(Ok(utc.0), Beidou::BEHIND_GPS_NS))
 }
 
-pub fn beidou_to_glonass(beidou: Beidou) -> GlonassAnswer
+pub fn beidou_to_glonass(beidou: Beidou) -> Result<Glonass, Refusal>
     ensures { glonass_in result ≡ shifted_to_glonass gps_minus_beidou builtin beidou.0 }
 {
-    let utc = utc_from_shifted(CountAnswer::Count(beidou.0), Beidou::BEHIND_GPS_NS);
+    let utc = utc_from_shifted(Ok(beidou.0), Beidou::BEHIND_GPS_NS);
     GlonassAnswer::of(steps::glonass_from_utc(utc))
 }
 
-pub fn glonass_to_beidou(glonass: Glonass) -> BeidouAnswer
+pub fn glonass_to_beidou(glonass: Glonass) -> Result<Beidou, Refusal>
     ensures { beidou_in result ≡ glonass_to_shifted gps_minus_beidou builtin glonass.0 }
 {
-    BeidouAnswer::of(shifted_from_glonass(CountAnswer::Count(glonass.0), Beidou::BEHIND_GPS_NS))
+    BeidouAnswer::of(shifted_from_glonass(Ok(glonass.0), Beidou::BEHIND_GPS_NS))
 }

@@ -2,30 +2,24 @@
 // and that offset. Do not take the threshold from `utc_to_gps`: the UTC count of that midnight is the inserted second's
 // too, and the conversion gives the first of the two, a second before the threshold.
 ghost use Rattle.std.specs.Prelude.{◌≡◌, pos, ◌+ℤ◌, ◌-ℤ◌};
+ghost use Rattle.refusals.specs.Outcome.{outcome_in};
 ghost use Rattle.counts.specs.Exact.{count_of};
-ghost use Rattle.counts.specs.Answers.{count_in};
 ghost use Rattle.calendar.specs.Answers.{date_in};
 ghost use Rattle.civil.specs.Fields.{count_at};
 ghost use Rattle.conversions.specs.Conversions.{E, in_nanos};
-ghost use Rattle.builtin.specs.Events.{event_in, midnight, event_threshold, entry_of_event};
+ghost use Rattle.builtin.specs.Events.{midnight, event_threshold, entry_of_event};
 
 use calendar::CivilDate;
 use civil::CivilDateTime;
 use conversions::inner::utc_minus_tai;
-use counts::{CountAnswer, Duration, sums};
+use counts::{Duration, sums};
 use refusals::Refusal;
 use tables::LeapEntry;
 
-// An event's entry, or why there is none.
-#[derive(Clone, Copy)]
-pub enum EventAnswer {
-    Entry(LeapEntry),
-    Refused(Refusal),
-}
 
 // The UTC count of a date's midnight.
-fn utc_at_midnight(date: CivilDate) -> CountAnswer
-    ensures { count_in result ≡ count_at (midnight (date_in date)) }
+fn utc_at_midnight(date: CivilDate) -> Result<u64, Refusal>
+    ensures { outcome_in result ≡ count_at (midnight (date_in date)) }
 {
     let fields = CivilDateTime {
         year: date.year,
@@ -40,31 +34,31 @@ fn utc_at_midnight(date: CivilDate) -> CountAnswer
 }
 
 // The TAI reading of a UTC count, at an offset.
-fn tai_at(utc: u64, offset: i32) -> CountAnswer
-    ensures { count_in result ≡ count_of (pos utc -ℤ pos E +ℤ in_nanos offset) }
+fn tai_at(utc: u64, offset: i32) -> Result<u64, Refusal>
+    ensures { outcome_in result ≡ count_of (pos utc -ℤ pos E +ℤ in_nanos offset) }
 {
     sums::earlier(utc, Duration(utc_minus_tai(offset)))
 }
 
-fn threshold(date: CivilDate, tai_minus_utc: i32) -> CountAnswer
-    ensures { count_in result ≡ event_threshold (date_in date) tai_minus_utc }
+fn threshold(date: CivilDate, tai_minus_utc: i32) -> Result<u64, Refusal>
+    ensures { outcome_in result ≡ event_threshold (date_in date) tai_minus_utc }
 {
     match utc_at_midnight(date) {
-        CountAnswer::Count(utc) => tai_at(utc, tai_minus_utc),
-        CountAnswer::Refused(why) => CountAnswer::Refused(why),
+        Ok(utc) => tai_at(utc, tai_minus_utc),
+        Err(why) => Err(why),
     }
 }
 
 // The entry of an event: 2017-01-01 and 37 give (1,167,264,037 s, 37). Any fields make a date, as in `to_utc_nanos`.
 // Refuses 1 where the date has no UTC count, and where the threshold is no count.
-pub fn entry_of_event(date: CivilDate, tai_minus_utc: i32) -> EventAnswer
-    ensures { event_in result ≡ entry_of_event (date_in date) tai_minus_utc }
+pub fn entry_of_event(date: CivilDate, tai_minus_utc: i32) -> Result<LeapEntry, Refusal>
+    ensures { outcome_in result ≡ entry_of_event (date_in date) tai_minus_utc }
 {
     match threshold(date, tai_minus_utc) {
-        CountAnswer::Count(tai_nanos) => EventAnswer::Entry(LeapEntry {
+        Ok(tai_nanos) => Ok(LeapEntry {
             tai_nanos,
             tai_minus_utc,
         }),
-        CountAnswer::Refused(why) => EventAnswer::Refused(why),
+        Err(why) => Err(why),
     }
 }

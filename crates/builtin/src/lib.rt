@@ -11,21 +11,20 @@ pub mod galileo;
 // end of shifted scales
 
 ghost use Rattle.std.specs.Prelude.{◌≡◌};
+ghost use Rattle.refusals.specs.Outcome.{outcome_in};
 ghost use Rattle.tables.specs.Entries.{offset_at};
 ghost use Rattle.tables.specs.Slots.{table_of};
 ghost use Rattle.scales.specs.Answers.{gps_in, utc_in, glonass_in};
 ghost use Rattle.conversions.specs.Conversions.{gps_to_utc, utc_to_gps, glonass_to_gps, gps_to_glonass, unix_to_gps, gps_to_unix};
-ghost use Rattle.conversions.specs.Answers.{unix_in};
 ghost use Rattle.builtin.specs.Builtin.{builtin};
 
 use crate::inner::{by_utc, lookup};
-use conversions::UnixAnswer;
 use conversions::inner::steps;
-use counts::{CountAnswer, unix};
-use scales::glonass::{Glonass, GlonassAnswer};
-use scales::gps::{Gps, GpsAnswer};
+use counts::unix;
+use scales::glonass::Glonass;
+use scales::gps::Gps;
 use scales::tai::Tai;
-use scales::utc::{Utc, UtcAnswer};
+use scales::utc::Utc;
 use tables::LeapTable;
 use tables::inner::table_of;
 
@@ -75,41 +74,41 @@ pub fn tai_minus_utc_at(tai: Tai) -> i32
     lookup::entry_told(lookup::event_at(tai.0)).offset
 }
 
-pub fn gps_to_utc(gps: Gps) -> UtcAnswer
+pub fn gps_to_utc(gps: Gps) -> Result<Utc, Refusal>
     ensures { utc_in result ≡ gps_to_utc builtin gps.0 }
 {
-    UtcAnswer::of(lookup::utc_from_gps(CountAnswer::Count(gps.0)))
+    UtcAnswer::of(lookup::utc_from_gps(Ok(gps.0)))
 }
 
 // Where a UTC count repeats it is the first of two.
-pub fn utc_to_gps(utc: Utc) -> GpsAnswer
+pub fn utc_to_gps(utc: Utc) -> Result<Gps, Refusal>
     ensures { gps_in result ≡ utc_to_gps builtin utc.0 }
 {
-    GpsAnswer::of(by_utc::gps_from_utc(CountAnswer::Count(utc.0)))
+    GpsAnswer::of(by_utc::gps_from_utc(Ok(utc.0)))
 }
 
-pub fn glonass_to_gps(glonass: Glonass) -> GpsAnswer
+pub fn glonass_to_gps(glonass: Glonass) -> Result<Gps, Refusal>
     ensures { gps_in result ≡ glonass_to_gps builtin glonass.0 }
 {
-    let utc = steps::utc_from_glonass(CountAnswer::Count(glonass.0));
+    let utc = steps::utc_from_glonass(Ok(glonass.0));
     GpsAnswer::of(by_utc::gps_from_utc(utc))
 }
 
-pub fn gps_to_glonass(gps: Gps) -> GlonassAnswer
+pub fn gps_to_glonass(gps: Gps) -> Result<Glonass, Refusal>
     ensures { glonass_in result ≡ gps_to_glonass builtin gps.0 }
 {
-    let utc = lookup::utc_from_gps(CountAnswer::Count(gps.0));
+    let utc = lookup::utc_from_gps(Ok(gps.0));
     GlonassAnswer::of(steps::glonass_from_utc(utc))
 }
 
-pub fn gps_from_unix_seconds(seconds: i64) -> GpsAnswer
+pub fn gps_from_unix_seconds(seconds: i64) -> Result<Gps, Refusal>
     ensures { gps_in result ≡ unix_to_gps builtin seconds }
 {
     GpsAnswer::of(by_utc::gps_from_utc(unix::from_unix_seconds(seconds)))
 }
 
-pub fn gps_as_unix_seconds(gps: Gps) -> UnixAnswer
-    ensures { unix_in result ≡ gps_to_unix builtin gps.0 }
+pub fn gps_as_unix_seconds(gps: Gps) -> Result<i64, Refusal>
+    ensures { outcome_in result ≡ gps_to_unix builtin gps.0 }
 {
-    steps::unix_from_utc(lookup::utc_from_gps(CountAnswer::Count(gps.0)))
+    steps::unix_from_utc(lookup::utc_from_gps(Ok(gps.0)))
 }

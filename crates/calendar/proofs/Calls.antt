@@ -1,8 +1,9 @@
 -- Each call of this crate leaves one answer for each input.
 use mathlib.Core.Path.{sym, ap, ◌∙◌}
 use lib.IntN.{nat_abs}
+use Rattle.refusals.proofs.Tells.{outcome_tells}
 use Rattle.refusals.proofs.OneAnswer.{OneAnswer, viewed}
-use Rattle.calendar.proofs.Tells.{date_tells, span_tells}
+use Rattle.calendar.proofs.Tells.{date_tells}
 use Rattle.calendar.proofs.CivilDate.new.Reads as new_contract
 use Rattle.calendar.proofs.CivilDate.days_from_unix.Reads as days_from_unix_contract
 use Rattle.calendar.proofs.CivilDate.days_until.Reads as days_until_contract
@@ -19,16 +20,16 @@ pub new : OneAnswer new_contract.Post
 new κ a x y e f p q = viewed date_tells x y p q
 
 pub days_from_unix_lem : OneAnswer days_from_unix_contract.Post
-days_from_unix_lem κ a x y e f p q = viewed span_tells x y p q
+days_from_unix_lem κ a x y e f p q = viewed outcome_tells x y p q
 
 pub days_until_lem : OneAnswer days_until_contract.Post
-days_until_lem κ a x y e f p q = viewed span_tells x y p q
+days_until_lem κ a x y e f p q = viewed outcome_tells x y p q
 
 pub seconds_until_lem : OneAnswer seconds_until_contract.Post
-seconds_until_lem κ a x y e f p q = viewed span_tells x y p q
+seconds_until_lem κ a x y e f p q = viewed outcome_tells x y p q
 
 pub nanos_until_lem : OneAnswer nanos_until_contract.Post
-nanos_until_lem κ a x y e f p q = viewed span_tells x y p q
+nanos_until_lem κ a x y e f p q = viewed outcome_tells x y p q
 
 pub days_of_date : OneAnswer days_of_date_contract.Post
 days_of_date κ a x y e f p q = p ∙ sym q

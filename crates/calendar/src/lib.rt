@@ -6,11 +6,12 @@ pub mod engine;
 pub mod epochs;
 
 ghost use Rattle.std.specs.Prelude.{◌≡◌, ◌*◌, pos, ◌*ℤ◌};
+ghost use Rattle.refusals.specs.Outcome.{outcome_in};
 ghost use Rattle.counts.specs.Exact.{duration_of};
 ghost use Rattle.counts.specs.Units.{second, day_seconds};
 ghost use Rattle.calendar.specs.Calendar.{on};
 ghost use Rattle.calendar.specs.Dates.{too_early, days_between, days_from_unix, days_until, seconds_until, nanos_until};
-ghost use Rattle.calendar.specs.Answers.{date_in, span_in};
+ghost use Rattle.calendar.specs.Answers.{date_in};
 
 use counts::units::NANOS_PER_SECOND;
 use refusals::Refusal;
@@ -22,11 +23,6 @@ const NANOS_PER_DAY: i64 = SECONDS_PER_DAY * NANOS_PER_SECOND as i64;
 // The year before which there is none of 32 bits.
 const LEAST_YEAR: i32 = i32::MIN;
 
-// The most days, onward and back, whose nanoseconds a signed 64-bit number holds: 2^63 / NANOS_PER_DAY is 106,751.99.
-const MOST_DAYS: i64 = 106_751;
-
-const MOST_DAYS_BACK: i64 = -MOST_DAYS;
-
 // A date, with any fields.
 #[derive(Clone, Copy)]
 pub struct CivilDate {
@@ -35,23 +31,11 @@ pub struct CivilDate {
     pub day: u8,
 }
 
-// A number of days, seconds or nanoseconds, or why there is none.
-#[derive(Clone, Copy)]
-pub enum SpanAnswer {
-    Span(i64),
-    Refused(Refusal),
-}
-
 // Whether the year of the March before it is none of 32 bits, where epoch.rs's step overflows.
 fn too_early(date: CivilDate) -> bool
     ensures { result ≡ too_early (date_in date) }
 {
-    let year = date.year;
-    if year == LEAST_YEAR {
-        date.month < 3
-    } else {
-        false
-    }
+    date.year == LEAST_YEAR && date.month < 3
 }
 
 // Days from one date to another, whatever the dates.
@@ -62,16 +46,10 @@ fn days_between(from: CivilDate, to: CivilDate) -> i64
 }
 
 // Days in nanoseconds.
-fn nanos_of_days(days: i64) -> SpanAnswer
-    ensures { span_in result ≡ duration_of (days *ℤ pos (day_seconds * second)) }
+fn nanos_of_days(days: i64) -> Result<i64, Refusal>
+    ensures { outcome_in result ≡ duration_of (days *ℤ pos (day_seconds * second)) }
 {
-    if days < MOST_DAYS_BACK {
-        SpanAnswer::Refused(Refusal::Overflow)
-    } else if days > MOST_DAYS {
-        SpanAnswer::Refused(Refusal::Overflow)
-    } else {
-        SpanAnswer::Span(days * NANOS_PER_DAY)
-    }
+    days.checked_mul(NANOS_PER_DAY).ok_or(Refusal::Overflow)
 }
 
 impl CivilDate {
@@ -82,46 +60,36 @@ impl CivilDate {
     }
 
     // Days from 1970-01-01, negative before it.
-    pub fn days_from_unix(self) -> SpanAnswer
-        ensures { span_in result ≡ days_from_unix (date_in self) }
+    pub fn days_from_unix(self) -> Result<i64, Refusal>
+        ensures { outcome_in result ≡ days_from_unix (date_in self) }
     {
         if too_early(self) {
-            SpanAnswer::Refused(Refusal::Overflow)
-        } else {
-            SpanAnswer::Span(engine::days_of_date(self))
+            return Err(Refusal::Overflow);
         }
+        Ok(engine::days_of_date(self))
     }
 
     // Days from this date to another.
-    pub fn days_until(self, other: CivilDate) -> SpanAnswer
-        ensures { span_in result ≡ days_until (date_in self) (date_in other) }
+    pub fn days_until(self, other: CivilDate) -> Result<i64, Refusal>
+        ensures { outcome_in result ≡ days_until (date_in self) (date_in other) }
     {
-        if too_early(self) {
-            SpanAnswer::Refused(Refusal::Overflow)
-        } else if too_early(other) {
-            SpanAnswer::Refused(Refusal::Overflow)
-        } else {
-            SpanAnswer::Span(days_between(self, other))
+        if too_early(self) || too_early(other) {
+            return Err(Refusal::Overflow);
         }
+        Ok(days_between(self, other))
     }
 
     // The same in seconds.
-    pub fn seconds_until(self, other: CivilDate) -> SpanAnswer
-        ensures { span_in result ≡ seconds_until (date_in self) (date_in other) }
+    pub fn seconds_until(self, other: CivilDate) -> Result<i64, Refusal>
+        ensures { outcome_in result ≡ seconds_until (date_in self) (date_in other) }
     {
-        match self.days_until(other) {
-            SpanAnswer::Span(days) => SpanAnswer::Span(days * SECONDS_PER_DAY),
-            SpanAnswer::Refused(r) => SpanAnswer::Refused(r),
-        }
+        Ok(self.days_until(other)? * SECONDS_PER_DAY)
     }
 
     // The same in nanoseconds, refused where they do not fit.
-    pub fn nanos_until(self, other: CivilDate) -> SpanAnswer
-        ensures { span_in result ≡ nanos_until (date_in self) (date_in other) }
+    pub fn nanos_until(self, other: CivilDate) -> Result<i64, Refusal>
+        ensures { outcome_in result ≡ nanos_until (date_in self) (date_in other) }
     {
-        match self.days_until(other) {
-            SpanAnswer::Span(days) => nanos_of_days(days),
-            SpanAnswer::Refused(r) => SpanAnswer::Refused(r),
-        }
+        nanos_of_days(self.days_until(other)?)
     }
 }

@@ -1,7 +1,7 @@
 -- Each call of this crate leaves one answer for each input.
 use mathlib.Core.Path.{sym, ◌∙◌}
+use Rattle.refusals.proofs.Tells.{outcome_tells}
 use Rattle.refusals.proofs.OneAnswer.{OneAnswer, viewed}
-use Rattle.counts.proofs.Tells.{count_tells}
 use Rattle.scales.proofs.Tells.{utc_tells}
 use Rattle.civil.proofs.Tells.{check_tells}
 use Rattle.civil.proofs.CivilDateTime.from_utc_nanos.Reads as from_utc_nanos_contract
@@ -18,7 +18,7 @@ pub check : OneAnswer check_contract.Post
 check κ a x y e f p q = viewed check_tells x y p q
 
 pub to_utc_nanos : OneAnswer to_utc_nanos_contract.Post
-to_utc_nanos κ a x y e f p q = viewed count_tells x y p q
+to_utc_nanos κ a x y e f p q = viewed outcome_tells x y p q
 
 pub to_utc : OneAnswer to_utc_contract.Post
 to_utc κ a x y e f p q = viewed utc_tells x y p q

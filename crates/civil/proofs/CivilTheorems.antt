@@ -1,18 +1,17 @@
 -- Counts and real fields come back as they went, the date of a count is the calendar's date of its day, and later
 -- counts have no earlier dates.
+use Rattle.std.specs.Prelude.{Ok, Result}
 use mathlib.Core.Path.{◌≡◌, refl, sym, ap, ◌∙◌}
 use mathlib.Core.Bool.{Bool, true, false, cond}
 use Prim.Native.Nat.{ℕ, ◌+◌, ◌*◌, ◌/◌, ◌%◌, ◌≤◌, ◌<◌, ◌^◌}
 use native.Mathlib.Omega.{arith}
 use lib.Dec.{ltb}
 use lib.IntN.{ℤ, pos, negsuc, ◌+ℤ◌, ◌-ℤ◌, -ℤ-+ℤ_cancel}
-use Rattle.refusals.specs.Outcome.{answered, refused}
+use Rattle.refusals.specs.declared.Refusal.{Refusal}
+use Rattle.refusals.proofs.Tells.{outcome_tells}
+use Rattle.refusals.specs.Outcome.{answered, refused, outcome_in}
 use Rattle.counts.specs.Exact.{count_of}
 use Rattle.counts.specs.Units as units
-use Rattle.counts.specs.Answers.{count_in}
-use Rattle.counts.specs.declared.CountAnswer.{CountAnswer}
-use Rattle.counts.specs.declared.CountAnswer.TheVariants.{Count}
-use Rattle.counts.proofs.Tells.{count_tells}
 use Rattle.counts.proofs.Difference.{not_below, of_naturals}
 use Rattle.counts.proofs.Fitting.{is_count}
 use Rattle.calendar.specs.Calendar.{date_of}
@@ -60,11 +59,11 @@ RealDatesGoByTheCalendar =
 -- and `from_utc_nanos` gives back real fields for which `to_utc_nanos` answers n
 abbrev pub CallsBringCountsBack : Type 0
 CallsBringCountsBack =
-    (n : ℕ) (c : CivilDateTime) (x : CountAnswer) → n < 2 ^ 64 → c ≡ fields_of n → count_in x ≡ count_at c → x ≡ Count n
+    (n : ℕ) (c : CivilDateTime) (x : Result ℕ Refusal) → n < 2 ^ 64 → c ≡ fields_of n → outcome_in x ≡ count_at c → x ≡ Ok n
 
 abbrev pub CallsBringFieldsBack : Type 0
 CallsBringFieldsBack =
-    (c d : CivilDateTime) (n : ℕ) → RealFields c → count_in (Count n) ≡ count_at c → d ≡ fields_of n → d ≡ c
+    (c d : CivilDateTime) (n : ℕ) → RealFields c → outcome_in (Ok n) ≡ count_at c → d ≡ fields_of n → d ≡ c
 
 -- fields that no clock shows are counted all the same: 2023-02-31 is 2023-03-03, and 255 hours of 1972-01-01 are
 -- 918,000 s
@@ -232,7 +231,7 @@ by_the_calendar c z e = ap (λ (d : ℤ). on_day (d -ℤ pos utc_epoch_day) (tim
 
 -- ---- the calls
 pub calls_bring_counts_back : CallsBringCountsBack
-calls_bring_counts_back n c x h e f = count_tells x (Count n) (f ∙ ap count_at e ∙ count_back n h)
+calls_bring_counts_back n c x h e f = outcome_tells x (Ok n) (f ∙ ap count_at e ∙ count_back n h)
 
 pub calls_bring_fields_back : CallsBringFieldsBack
 calls_bring_fields_back c d n r e f = f ∙ fields_back c n r (sym e)

@@ -1,14 +1,13 @@
 -- Which fields exist: a date that the calendar has, and a time of day. Whether a second 60 was inserted is not asked here.
-use Rattle.std.specs.Prelude.{Bool, cond, List, [], ◌∷◌, ℕ, ltb, leb}
+use Rattle.std.specs.Prelude.{Bool, cond, List, [], ◌∷◌, ℕ, ltb, leb, Err, Ok, Result}
 use Rattle.std.proofs.Math.Option.{Option, none, some}
+use Rattle.refusals.specs.declared.Refusal.{Refusal}
 use Rattle.refusals.specs.Number.{number_of}
 use Rattle.refusals.specs.Outcome.{Outcome, refused}
 use Rattle.counts.specs.Units as units
 use Rattle.calendar.specs.Calendar.{has_month, has_day}
 use Rattle.civil.specs.Fields.{date_in}
 use Rattle.civil.specs.declared.CivilDateTime.{CivilDateTime}
-use Rattle.civil.specs.declared.FieldCheck.{FieldCheck}
-use Rattle.civil.specs.declared.FieldCheck.TheVariants as check
 
 -- the test of each field, in order, and the number of its refusal
 abbrev pub field_tests : CivilDateTime → List (Bool × ℕ)
@@ -34,6 +33,6 @@ unless_refused (some k) a = refused k
 abbrev pub of_real : {A : Type 0} → CivilDateTime → Outcome A → Outcome A
 of_real c a = unless_refused (out_of_range c) a
 
-abbrev pub check_in : FieldCheck → Option ℕ
-check_in check.InRange = none
-check_in (check.Refused r) = some (number_of r)
+abbrev pub check_in : Result Unit Refusal → Option ℕ
+check_in (Ok tt) = none
+check_in (Err r) = some (number_of r)

@@ -6,18 +6,18 @@
 pub mod inner;
 
 ghost use Rattle.std.specs.Prelude.{◌≡◌, pos, ◌-ℤ◌, eqb, drop};
-ghost use Rattle.counts.specs.Answers.{count_in};
+ghost use Rattle.refusals.specs.Outcome.{outcome_in};
 ghost use Rattle.scales.specs.Answers.{utc_in};
 ghost use Rattle.calendar.specs.Dates.{utc_epoch_day};
 ghost use Rattle.civil.specs.Fields.{fields_of, time_of, on_day, count_at};
 ghost use Rattle.civil.specs.Real.{field_tests, first_failed, out_of_range, check_in};
 
 use calendar::{CivilDate, engine};
+use counts::sums;
 use counts::units::NANOS_PER_SECOND;
-use counts::{CountAnswer, sums};
 use inner::{SECONDS_PER_DAY, SECONDS_PER_HOUR, SECONDS_PER_MINUTE, fields_at};
 use refusals::Refusal;
-use scales::utc::{Utc, UtcAnswer};
+use scales::utc::Utc;
 
 const NANOS_PER_DAY: u64 = SECONDS_PER_DAY * NANOS_PER_SECOND;
 
@@ -39,25 +39,15 @@ pub struct CivilDateTime {
     pub nanos: u32,
 }
 
-// Whether fields exist, or why the first that is out of range does not.
-#[derive(Clone, Copy)]
-pub enum FieldCheck {
-    InRange,
-    Refused(Refusal),
-}
-
 // The count of a time on a Unix day.
-fn count_on_day(unix_day: i64, time: u64) -> CountAnswer
-    ensures { count_in result ≡ on_day (unix_day -ℤ pos utc_epoch_day) time }
+fn count_on_day(unix_day: i64, time: u64) -> Result<u64, Refusal>
+    ensures { outcome_in result ≡ on_day (unix_day -ℤ pos utc_epoch_day) time }
 {
-    if unix_day < UTC_EPOCH_DAY {
-        CountAnswer::Refused(Refusal::Overflow)
-    } else if unix_day > LAST_UNIX_DAY {
-        CountAnswer::Refused(Refusal::Overflow)
-    } else {
-        let day = (unix_day - UTC_EPOCH_DAY) as u64;
-        sums::plus(day * NANOS_PER_DAY, time)
+    if unix_day < UTC_EPOCH_DAY || unix_day > LAST_UNIX_DAY {
+        return Err(Refusal::Overflow);
     }
+    let day = (unix_day - UTC_EPOCH_DAY) as u64;
+    sums::plus(day * NANOS_PER_DAY, time)
 }
 
 impl CivilDateTime {
@@ -68,40 +58,46 @@ impl CivilDateTime {
         fields_at(count / NANOS_PER_SECOND, (count % NANOS_PER_SECOND) as u32)
     }
 
+    fn date(self) -> CivilDate
+        ensures { result ≡ record { year = self.year; month = self.month; day = self.day } }
+    {
+        CivilDate {
+            year: self.year,
+            month: self.month,
+            day: self.day,
+        }
+    }
+
     // Tests hour, minute, second and nanoseconds.
-    fn check_time(self) -> FieldCheck
+    fn check_time(self) -> Result<(), Refusal>
         ensures { check_in result ≡ first_failed (drop 2 (field_tests self)) }
     {
         if self.hour >= 24 {
-            return FieldCheck::Refused(Refusal::NoSuchHour);
+            return Err(Refusal::NoSuchHour);
         }
         if self.minute >= 60 {
-            return FieldCheck::Refused(Refusal::NoSuchMinute);
+            return Err(Refusal::NoSuchMinute);
         }
         if self.second > 60 {
-            return FieldCheck::Refused(Refusal::NoSuchSecond);
+            return Err(Refusal::NoSuchSecond);
         }
         if self.nanos as u64 >= NANOS_PER_SECOND {
-            return FieldCheck::Refused(Refusal::InvalidNanos);
+            return Err(Refusal::InvalidNanos);
         }
-        FieldCheck::InRange
+        Ok(())
     }
 
     // Tests the fields from the month on, and refuses the first that does not exist. Second 60 passes: whether one was
     // inserted there is for a table to say.
-    pub fn check(self) -> FieldCheck
+    pub fn check(self) -> Result<(), Refusal>
         ensures { check_in result ≡ out_of_range self }
     {
-        let date = CivilDate {
-            year: self.year,
-            month: self.month,
-            day: self.day,
-        };
+        let date = self.date();
         if !engine::has_month(date) {
-            return FieldCheck::Refused(Refusal::NoSuchMonth);
+            return Err(Refusal::NoSuchMonth);
         }
         if !engine::has_day(date) {
-            return FieldCheck::Refused(Refusal::NoSuchDay);
+            return Err(Refusal::NoSuchDay);
         }
         self.check_time()
     }
@@ -118,22 +114,17 @@ impl CivilDateTime {
     }
 
     // The count of the fields: refused before 1972-01-01, and where it does not fit.
-    pub fn to_utc_nanos(self) -> CountAnswer
-        ensures { count_in result ≡ count_at self }
+    pub fn to_utc_nanos(self) -> Result<u64, Refusal>
+        ensures { outcome_in result ≡ count_at self }
     {
-        let date = CivilDate {
-            year: self.year,
-            month: self.month,
-            day: self.day,
-        };
-        count_on_day(engine::days_of_date(date), self.time_of_day())
+        count_on_day(engine::days_of_date(self.date()), self.time_of_day())
     }
 
     // The same as a count of its scale.
-    pub fn to_utc(self) -> UtcAnswer
+    pub fn to_utc(self) -> Result<Utc, Refusal>
         ensures { utc_in result ≡ count_at self }
     {
-        UtcAnswer::of(self.to_utc_nanos())
+        Ok(Utc(self.to_utc_nanos()?))
     }
 
     // Whether there is no part of a second.

@@ -2,4 +2,3 @@ pub mod Conversions
 pub mod Shifted
 pub mod ByLookup
 pub mod Answers
-pub mod DatedShifted

@@ -1,7 +1,8 @@
 -- Each call of this crate leaves one answer for each input.
 use mathlib.Core.Path.{sym, ◌∙◌}
+use Rattle.refusals.proofs.Tells.{outcome_tells}
 use Rattle.refusals.proofs.OneAnswer.{OneAnswer, viewed}
-use Rattle.counts.proofs.Tells.{count_tells, duration_tells, parts_tells}
+use Rattle.counts.proofs.Tells.{duration_tells}
 use Rattle.counts.proofs.sums.by_sign.Reads as by_sign_contract
 use Rattle.counts.proofs.sums.plus.Reads as plus_contract
 use Rattle.counts.proofs.sums.minus.Reads as minus_contract
@@ -28,16 +29,16 @@ pub by_sign : OneAnswer by_sign_contract.Post
 by_sign κ a x y e f p q = p ∙ sym q
 
 pub plus : OneAnswer plus_contract.Post
-plus κ a x y e f p q = viewed count_tells x y p q
+plus κ a x y e f p q = viewed outcome_tells x y p q
 
 pub minus : OneAnswer minus_contract.Post
-minus κ a x y e f p q = viewed count_tells x y p q
+minus κ a x y e f p q = viewed outcome_tells x y p q
 
 pub later : OneAnswer later_contract.Post
-later κ a x y e f p q = viewed count_tells x y p q
+later κ a x y e f p q = viewed outcome_tells x y p q
 
 pub earlier : OneAnswer earlier_contract.Post
-earlier κ a x y e f p q = viewed count_tells x y p q
+earlier κ a x y e f p q = viewed outcome_tells x y p q
 
 pub saturating_plus : OneAnswer plus_to_limit_contract.Post
 saturating_plus κ a x y e f p q = p ∙ sym q
@@ -61,25 +62,25 @@ pub elapsed : OneAnswer elapsed_contract.Post
 elapsed κ a x y e f p q = viewed duration_tells x y p q
 
 pub from_seconds_and : OneAnswer from_seconds_and_contract.Post
-from_seconds_and κ a x y e f p q = viewed count_tells x y p q
+from_seconds_and κ a x y e f p q = viewed outcome_tells x y p q
 
 pub from-seconds : OneAnswer from_seconds_contract.Post
-from-seconds κ a x y e f p q = viewed count_tells x y p q
+from-seconds κ a x y e f p q = viewed outcome_tells x y p q
 
 pub parts : OneAnswer parts_contract.Post
 parts κ a x y e f p q = p ∙ sym q
 
 pub duration_parts_new : OneAnswer duration_parts_new_contract.Post
-duration_parts_new κ a x y e f p q = viewed parts_tells x y p q
+duration_parts_new κ a x y e f p q = viewed outcome_tells x y p q
 
 pub of_units_lem : OneAnswer of_units_contract.Post
-of_units_lem κ a x y e f p q = viewed count_tells x y p q
+of_units_lem κ a x y e f p q = viewed outcome_tells x y p q
 
 pub from_unix_seconds : OneAnswer from_unix_seconds_contract.Post
-from_unix_seconds κ a x y e f p q = viewed count_tells x y p q
+from_unix_seconds κ a x y e f p q = viewed outcome_tells x y p q
 
 pub from_unix_nanos : OneAnswer from_unix_nanos_contract.Post
-from_unix_nanos κ a x y e f p q = viewed count_tells x y p q
+from_unix_nanos κ a x y e f p q = viewed outcome_tells x y p q
 
 pub as_unix_seconds : OneAnswer as_unix_seconds_contract.Post
 as_unix_seconds κ a x y e f p q = p ∙ sym q

@@ -6,22 +6,6 @@ pub mod sums;
 pub mod units;
 pub mod unix;
 
-use refusals::Refusal;
-
 // A signed number of nanoseconds.
 #[derive(Clone, Copy)]
 pub struct Duration(pub i64);
-
-// A count, or why there is none.
-#[derive(Clone, Copy)]
-pub enum CountAnswer {
-    Count(u64),
-    Refused(Refusal),
-}
-
-// A duration, or why there is none.
-#[derive(Clone, Copy)]
-pub enum DurationAnswer {
-    Lasts(Duration),
-    Refused(Refusal),
-}

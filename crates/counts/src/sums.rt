@@ -1,10 +1,10 @@
 // A count and a duration: later, earlier, and the duration between two counts.
 ghost use Rattle.std.specs.Prelude.{◌≡◌, ◌+◌, pos, negsuc, ◌+ℤ◌, ◌-ℤ◌};
+ghost use Rattle.refusals.specs.Outcome.{outcome_in};
 ghost use Rattle.counts.specs.Exact.{count_of, duration_of, nearest_count, step_of};
-ghost use Rattle.counts.specs.Answers.{count_in, duration_in};
+ghost use Rattle.counts.specs.Answers.{duration_in};
 
-use crate::units::LARGEST_COUNT;
-use crate::{CountAnswer, Duration, DurationAnswer};
+use crate::Duration;
 use refusals::Refusal;
 
 const LARGEST_DURATION: u64 = i64::MAX as u64;
@@ -21,36 +21,27 @@ pub fn by_sign(d: Duration) -> Step
 {
     let n = d.0;
     if n < 0 {
-        // i64::MIN has no negation, so negate n + 1
-        Step::Back((0 - (n + 1)) as u64 + 1)
+        Step::Back(n.unsigned_abs())
     } else {
         Step::Forward(n as u64)
     }
 }
 
-pub fn plus(n: u64, m: u64) -> CountAnswer
-    ensures { count_in result ≡ count_of (pos (n + m)) }
+pub fn plus(n: u64, m: u64) -> Result<u64, Refusal>
+    ensures { outcome_in result ≡ count_of (pos (n + m)) }
 {
-    if m <= LARGEST_COUNT - n {
-        CountAnswer::Count(n + m)
-    } else {
-        CountAnswer::Refused(Refusal::Overflow)
-    }
+    n.checked_add(m).ok_or(Refusal::Overflow)
 }
 
-pub fn minus(n: u64, m: u64) -> CountAnswer
-    ensures { count_in result ≡ count_of (pos n -ℤ pos m) }
+pub fn minus(n: u64, m: u64) -> Result<u64, Refusal>
+    ensures { outcome_in result ≡ count_of (pos n -ℤ pos m) }
 {
-    if m <= n {
-        CountAnswer::Count(n - m)
-    } else {
-        CountAnswer::Refused(Refusal::Overflow)
-    }
+    n.checked_sub(m).ok_or(Refusal::Overflow)
 }
 
 // The count a duration later.
-pub fn later(n: u64, d: Duration) -> CountAnswer
-    ensures { count_in result ≡ count_of (pos n +ℤ d.0) }
+pub fn later(n: u64, d: Duration) -> Result<u64, Refusal>
+    ensures { outcome_in result ≡ count_of (pos n +ℤ d.0) }
 {
     match by_sign(d) {
         Step::Forward(m) => plus(n, m),
@@ -59,8 +50,8 @@ pub fn later(n: u64, d: Duration) -> CountAnswer
 }
 
 // The count a duration earlier.
-pub fn earlier(n: u64, d: Duration) -> CountAnswer
-    ensures { count_in result ≡ count_of (pos n -ℤ d.0) }
+pub fn earlier(n: u64, d: Duration) -> Result<u64, Refusal>
+    ensures { outcome_in result ≡ count_of (pos n -ℤ d.0) }
 {
     match by_sign(d) {
         Step::Forward(m) => minus(n, m),
@@ -71,17 +62,13 @@ pub fn earlier(n: u64, d: Duration) -> CountAnswer
 pub fn saturating_plus(n: u64, m: u64) -> u64
     ensures { result ≡ nearest_count (pos (n + m)) }
 {
-    if m <= LARGEST_COUNT - n {
-        n + m
-    } else {
-        LARGEST_COUNT
-    }
+    n.saturating_add(m)
 }
 
 pub fn saturating_minus(n: u64, m: u64) -> u64
     ensures { result ≡ nearest_count (pos n -ℤ pos m) }
 {
-    if m <= n { n - m } else { 0 }
+    n.saturating_sub(m)
 }
 
 // The count a duration later, or the limit on the way.
@@ -105,29 +92,29 @@ pub fn saturating_earlier(n: u64, d: Duration) -> u64
 }
 
 // The duration of m nanoseconds.
-pub fn forward(m: u64) -> DurationAnswer
+pub fn forward(m: u64) -> Result<Duration, Refusal>
     ensures { duration_in result ≡ duration_of (pos m) }
 {
     if m <= LARGEST_DURATION {
-        DurationAnswer::Lasts(Duration(m as i64))
+        Ok(Duration(m as i64))
     } else {
-        DurationAnswer::Refused(Refusal::Overflow)
+        Err(Refusal::Overflow)
     }
 }
 
 // The duration −(m + 1).
-pub fn backward(m: u64) -> DurationAnswer
+pub fn backward(m: u64) -> Result<Duration, Refusal>
     ensures { duration_in result ≡ duration_of (negsuc m) }
 {
     if m <= LARGEST_DURATION {
-        DurationAnswer::Lasts(Duration(0 - (m as i64) - 1))
+        Ok(Duration(0 - (m as i64) - 1))
     } else {
-        DurationAnswer::Refused(Refusal::Overflow)
+        Err(Refusal::Overflow)
     }
 }
 
 // The duration from the count `start` to the count `end`.
-pub fn elapsed(end: u64, start: u64) -> DurationAnswer
+pub fn elapsed(end: u64, start: u64) -> Result<Duration, Refusal>
     ensures { duration_in result ≡ duration_of (pos end -ℤ pos start) }
 {
     if start <= end {

@@ -1,10 +1,10 @@
 // Counts by seconds, and by whole days or weeks with the rest of one.
 ghost use Rattle.std.specs.Prelude.{◌≡◌, ◌+◌, ◌*◌, pos};
+ghost use Rattle.refusals.specs.Outcome.{outcome_in};
 ghost use Rattle.counts.specs.Exact.{count_of};
 ghost use Rattle.counts.specs.Units.{second, parts_of, parts_from, of_units};
-ghost use Rattle.counts.specs.Answers.{count_in, parts_in};
 
-use crate::{CountAnswer, sums};
+use crate::sums;
 use refusals::Refusal;
 
 pub const NANOS_PER_SECOND: u64 = 1_000_000_000;
@@ -26,27 +26,20 @@ pub struct DurationParts {
     pub nanos: u32,
 }
 
-// Parts, or why there are none.
-#[derive(Clone, Copy)]
-pub enum PartsAnswer {
-    Parts(DurationParts),
-    Refused(Refusal),
-}
-
 // The count of whole seconds and further nanoseconds.
-pub fn from_seconds_and(seconds: u64, nanos: u64) -> CountAnswer
-    ensures { count_in result ≡ count_of (pos (seconds * second + nanos)) }
+pub fn from_seconds_and(seconds: u64, nanos: u64) -> Result<u64, Refusal>
+    ensures { outcome_in result ≡ count_of (pos (seconds * second + nanos)) }
 {
     if seconds <= LARGEST_SECONDS {
         sums::plus(seconds * NANOS_PER_SECOND, nanos)
     } else {
-        CountAnswer::Refused(Refusal::Overflow)
+        Err(Refusal::Overflow)
     }
 }
 
 // The count of whole seconds.
-pub fn from_seconds(seconds: u64) -> CountAnswer
-    ensures { count_in result ≡ count_of (pos (seconds * second)) }
+pub fn from_seconds(seconds: u64) -> Result<u64, Refusal>
+    ensures { outcome_in result ≡ count_of (pos (seconds * second)) }
 {
     from_seconds_and(seconds, 0)
 }
@@ -63,29 +56,29 @@ pub fn parts(n: u64) -> DurationParts
 
 impl DurationParts {
     // Parts whose nanoseconds are less than a second.
-    pub fn new(seconds: u64, nanos: u32) -> PartsAnswer
-        ensures { parts_in result ≡ parts_from seconds nanos }
+    pub fn new(seconds: u64, nanos: u32) -> Result<DurationParts, Refusal>
+        ensures { outcome_in result ≡ parts_from seconds nanos }
     {
         if NANOS_PER_SECOND <= nanos as u64 {
-            PartsAnswer::Refused(Refusal::InvalidNanos)
+            Err(Refusal::InvalidNanos)
         } else {
-            PartsAnswer::Parts(DurationParts { seconds, nanos })
+            Ok(DurationParts { seconds, nanos })
         }
     }
 }
 
 // The count of `whole` units of `unit` seconds each, and the rest of one.
-pub fn of_units(unit_seconds: u32, whole: u32, rest: DurationParts) -> CountAnswer
-    ensures { count_in result ≡ of_units unit_seconds whole rest.seconds rest.nanos }
+pub fn of_units(unit_seconds: u32, whole: u32, rest: DurationParts) -> Result<u64, Refusal>
+    ensures { outcome_in result ≡ of_units unit_seconds whole rest.seconds rest.nanos }
 {
     let unit = unit_seconds as u64;
     let seconds = rest.seconds;
     let nanos = rest.nanos as u64;
     if unit <= seconds {
-        return CountAnswer::Refused(Refusal::InvalidSeconds);
+        return Err(Refusal::InvalidSeconds);
     }
     if NANOS_PER_SECOND <= nanos {
-        return CountAnswer::Refused(Refusal::InvalidNanos);
+        return Err(Refusal::InvalidNanos);
     }
     from_seconds_and((whole as u64) * unit + seconds, nanos)
 }

@@ -1,12 +1,12 @@
 // UTC counts, which begin with 1972, and Unix time, which begins with 1970.
 ghost use Rattle.std.specs.Prelude.{◌≡◌, ◌+◌, ◌*◌, ◌/◌, ◌-◌, ◌^◌, min, pos, ◌-ℤ◌, ◌*ℤ◌};
+ghost use Rattle.refusals.specs.Outcome.{outcome_in};
 ghost use Rattle.counts.specs.Exact.{count_of};
 ghost use Rattle.counts.specs.Units.{second, unix_offset};
-ghost use Rattle.counts.specs.Answers.{count_in};
 
 use crate::sums::Step;
 use crate::units::NANOS_PER_SECOND;
-use crate::{CountAnswer, Duration, sums, units};
+use crate::{Duration, sums, units};
 use refusals::Refusal;
 
 // 1970-01-01 to 1972-01-01: 730 days of 86,400 s
@@ -16,27 +16,27 @@ pub const UTC_EPOCH_UNIX_OFFSET_NS: u64 = UTC_EPOCH_UNIX_OFFSET_S * NANOS_PER_SE
 
 const LARGEST_SIGNED: u64 = i64::MAX as u64;
 
-pub fn from_unix_seconds(seconds: i64) -> CountAnswer
-    ensures { count_in result ≡ count_of ((seconds -ℤ pos unix_offset) *ℤ pos second) }
+pub fn from_unix_seconds(seconds: i64) -> Result<u64, Refusal>
+    ensures { outcome_in result ≡ count_of ((seconds -ℤ pos unix_offset) *ℤ pos second) }
 {
     match sums::by_sign(Duration(seconds)) {
         Step::Forward(s) => {
             if s < UTC_EPOCH_UNIX_OFFSET_S {
-                CountAnswer::Refused(Refusal::Overflow)
+                Err(Refusal::Overflow)
             } else {
                 units::from_seconds(s - UTC_EPOCH_UNIX_OFFSET_S)
             }
         }
-        Step::Back(_) => CountAnswer::Refused(Refusal::Overflow),
+        Step::Back(_) => Err(Refusal::Overflow),
     }
 }
 
-pub fn from_unix_nanos(nanos: i64) -> CountAnswer
-    ensures { count_in result ≡ count_of (nanos -ℤ pos (unix_offset * second)) }
+pub fn from_unix_nanos(nanos: i64) -> Result<u64, Refusal>
+    ensures { outcome_in result ≡ count_of (nanos -ℤ pos (unix_offset * second)) }
 {
     match sums::by_sign(Duration(nanos)) {
         Step::Forward(n) => sums::minus(n, UTC_EPOCH_UNIX_OFFSET_NS),
-        Step::Back(_) => CountAnswer::Refused(Refusal::Overflow),
+        Step::Back(_) => Err(Refusal::Overflow),
     }
 }
 

@@ -7,9 +7,8 @@ use Prim.Native.Nat.{ℕ, ◌+◌}
 use native.Mathlib.Omega.{arith}
 use borrow.Author.Tests.{le-leb}
 use lib.ListN.{length}
-use Rattle.refusals.specs.Outcome.{Outcome, answered, refused, value_in, Gives, then, unless}
+use Rattle.refusals.specs.Outcome.{Outcome, answered, refused, value_in, Gives, then, unless, outcome_in}
 use Rattle.refusals.proofs.Given.{Numbered, gives_same, told_is}
-use Rattle.counts.specs.Answers.{count_in}
 use Rattle.scales.specs.Answers.{gps_in, utc_in}
 use Rattle.scales.specs.Scales.{tai_minus_gps}
 use Rattle.tables.specs.Entries.{Entry, regular}
@@ -113,14 +112,14 @@ module _ (b : List ℕ) (size : length b ≡ image_bytes) where
 
   pub image_to_utc : (g : ℕ) (o : Outcome ℕ) → ToUtcInPlace b g o → o ≡ of_valid t (gps_to_utc (entries_of t) g)
   image_to_utc g = allowed _ (λ κ a r e q (d, is, p).
-      ap count_in (sym is) ∙ by_bytes a.1.0.now (λ es. value_in 0 (count_in a.0) + tai_minus_gps) (λ es. then (count_in a.0) (gps_to_utc es)) p
-      ∙ (λ i. by_image a.1.0.now (λ es. then (count_in (q.0 i)) (gps_to_utc es)))
+      ap outcome_in (sym is) ∙ by_bytes a.1.0.now (λ es. value_in 0 (outcome_in a.0) + tai_minus_gps) (λ es. then (outcome_in a.0) (gps_to_utc es)) p
+      ∙ (λ i. by_image a.1.0.now (λ es. then (outcome_in (q.0 i)) (gps_to_utc es)))
       ∙ of_image gps_to_utc size {n = g} (refl, q.1))
 
   pub image_to_gps : (u : ℕ) (o : Outcome ℕ) → ToGpsInPlace b u o → o ≡ of_valid t (utc_to_gps (entries_of t) u)
   image_to_gps u = allowed _ (λ κ a r e q (d, is, p).
-      ap count_in (sym is) ∙ by_bytes a.1.0.now (λ es. last_reading es (value_in 0 (count_in a.0))) (λ es. then (count_in a.0) (utc_to_gps es)) p
-      ∙ (λ i. by_image a.1.0.now (λ es. then (count_in (q.0 i)) (utc_to_gps es)))
+      ap outcome_in (sym is) ∙ by_bytes a.1.0.now (λ es. last_reading es (value_in 0 (outcome_in a.0))) (λ es. then (outcome_in a.0) (utc_to_gps es)) p
+      ∙ (λ i. by_image a.1.0.now (λ es. then (outcome_in (q.0 i)) (utc_to_gps es)))
       ∙ of_image utc_to_gps size {n = u} (refl, q.1))
 
   pub host_to_utc : (g : ℕ) (o : Outcome ℕ) → ToUtcExported b g o → o ≡ of_valid t (gps_to_utc (entries_of t) g)

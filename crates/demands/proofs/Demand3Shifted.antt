@@ -3,9 +3,8 @@
 -- `shifted_to_utc` and `utc_to_shifted` say, and Shifted.antt proves it of these for any difference.
 use mathlib.Core.Path.{refl, sym, ap, ◌∙◌}
 use Prim.Native.Nat.{◌+◌}
-use Rattle.refusals.specs.Outcome.{value_in, then}
+use Rattle.refusals.specs.Outcome.{value_in, then, outcome_in}
 use Rattle.refusals.proofs.Given.{told_is}
-use Rattle.counts.specs.Answers.{count_in}
 use Rattle.scales.specs.Answers.{utc_in, galileo_in, beidou_in}
 use Rattle.scales.specs.Scales.{tai_minus_gps, gps_minus_galileo, gps_minus_beidou}
 use Rattle.tables.specs.Slots.{entries_of, of_valid}
@@ -23,14 +22,14 @@ demand_3_shifted = record {
   in_place = λ d b size r.
       of_table (table_in b) r (tai_minus_gps + d) (shifted_instants (entries_of (table_in b)) r.1 d)
       (λ n. allowed _ (λ κ a x e q (r, is, p).
-      ap count_in (sym is) ∙ by_bytes a.1.0.now (λ es. value_in 0 (count_in a.0) + a.1.1.0 + tai_minus_gps)
-      (λ es. then (count_in a.0) (shifted_to_utc a.1.1.0 es)) p
-      ∙ (λ i. by_image a.1.0.now (λ es. then (count_in (q.0 i)) (shifted_to_utc (q.2 i) es)))
+      ap outcome_in (sym is) ∙ by_bytes a.1.0.now (λ es. value_in 0 (outcome_in a.0) + a.1.1.0 + tai_minus_gps)
+      (λ es. then (outcome_in a.0) (shifted_to_utc a.1.1.0 es)) p
+      ∙ (λ i. by_image a.1.0.now (λ es. then (outcome_in (q.0 i)) (shifted_to_utc (q.2 i) es)))
       ∙ of_image (shifted_to_utc d) size {n = n} (refl, q.1)))
       (λ u. allowed _ (λ κ a x e q (r, is, p).
-      ap count_in (sym is) ∙ by_bytes a.1.0.now (λ es. shifted_reading a.1.1.0 es (value_in 0 (count_in a.0)))
-      (λ es. then (count_in a.0) (utc_to_shifted a.1.1.0 es)) p
-      ∙ (λ i. by_image a.1.0.now (λ es. then (count_in (q.0 i)) (utc_to_shifted (q.2 i) es)))
+      ap outcome_in (sym is) ∙ by_bytes a.1.0.now (λ es. shifted_reading a.1.1.0 es (value_in 0 (outcome_in a.0)))
+      (λ es. then (outcome_in a.0) (utc_to_shifted a.1.1.0 es)) p
+      ∙ (λ i. by_image a.1.0.now (λ es. then (outcome_in (q.0 i)) (utc_to_shifted (q.2 i) es)))
       ∙ of_image (utc_to_shifted d) size {n = u} (refl, q.1)));
   galileo_by_value = λ t r.
       of_table t r (tai_minus_gps + gps_minus_galileo) (shifted_instants (entries_of t) r.1 gps_minus_galileo)

@@ -5,9 +5,8 @@ use mathlib.Core.Bool.{true}
 use mathlib.Core.List.{List}
 use Prim.Native.Nat.{ℕ, ◌+◌}
 use lib.IntN.{pos}
-use Rattle.refusals.specs.Outcome.{Outcome, value_in}
+use Rattle.refusals.specs.Outcome.{Outcome, value_in, outcome_in}
 use Rattle.refusals.proofs.Given.{told_is}
-use Rattle.counts.specs.Answers.{count_in}
 use Rattle.scales.specs.Scales.{tai_minus_gps}
 use Rattle.civil.specs.Fields.{fields}
 use Rattle.civil.specs.declared.CivilDateTime.{CivilDateTime}
@@ -19,7 +18,6 @@ use Rattle.images.specs.Image.{table_in}
 use Rattle.builtin.specs.Builtin.{builtin}
 use Rattle.builtin.proofs.Regular.{builtin_on_days}
 use Rattle.readings.specs.Readings.{gps_to_civil, civil_to_gps}
-use Rattle.readings.specs.Answers.{reading_in}
 use Rattle.readings.proofs.LaterEntries.{both_tests}
 use Rattle.demands.specs.OfReadings.{CivilReadingsOf, OnDays, ReadingCalls}
 use Rattle.demands.proofs.Demand3.{allowed, regular-valid, by_bytes, of_image, as_told_lem}
@@ -53,10 +51,10 @@ reading_calls = record {
   in_place = λ b size on.
       of_table (table_in b) on
       (λ g. allowed _ (λ κ a x e q (d, is, p).
-      ap reading_in (sym is) ∙ by_bytes a.1.0.now (λ es. a.0.0 + tai_minus_gps) (λ es. gps_to_civil es a.0.0) p
+      ap outcome_in (sym is) ∙ by_bytes a.1.0.now (λ es. a.0.0 + tai_minus_gps) (λ es. gps_to_civil es a.0.0) p
       ∙ of_image gps_to_civil size {n = g} q))
       (λ c. allowed _ (λ κ a x e q (d, is, p).
-      ap count_in (sym is)
+      ap outcome_in (sym is)
       ∙ by_bytes a.1.0.now (λ es. value_in 0 (civil_to_gps es a.0) + tai_minus_gps) (λ es. civil_to_gps es a.0) p
       ∙ of_image civil_to_gps size {n = c} q));
   built_in =

@@ -1,5 +1,5 @@
 -- The checked examples that are proved: one list, in the order of the rules.
-use Rattle.std.specs.Prelude.{◌≡◌, Bool, true, false, List, [], ◌∷◌, ℕ, ◌+◌, ◌*◌, ℤ, pos}
+use Rattle.std.specs.Prelude.{◌≡◌, Bool, true, false, List, [], ◌∷◌, ℕ, ◌+◌, ◌*◌, ℤ, pos, None, Option, Some}
 use Rattle.refusals.specs.Outcome.{Outcome, answered, refused}
 use Rattle.counts.specs.Exact.{up, down}
 use Rattle.counts.specs.Units.{second, week_seconds, of_units}
@@ -9,10 +9,6 @@ use Rattle.tables.specs.Slots.{entries_of, table_of, extended}
 use Rattle.tables.specs.Expiry.{by_table, with_expiry}
 use Rattle.tables.specs.declared.LeapTable.{LeapTable}
 use Rattle.tables.specs.declared.Lookup.{Lookup}
-use Rattle.tables.specs.declared.Place.{Place}
-use Rattle.tables.specs.declared.Place.TheVariants as place
-use Rattle.tables.specs.declared.Threshold.{Threshold}
-use Rattle.tables.specs.declared.Threshold.TheVariants as next
 use Rattle.conversions.specs.Conversions.{glonass_epoch, gps_to_utc, last_reading, utc_to_gps, glonass_to_gps}
 use Rattle.conversions.specs.Shifted.{shifted_to_utc, utc_to_shifted, glonass_to_shifted}
 use Rattle.scales.specs.Scales.{gps_minus_galileo, gps_minus_beidou}
@@ -44,7 +40,7 @@ abbrev pub from : ℕ → ℕ → List Entry
 from a b = entry a (pos 19) ∷ entry b (pos 20) ∷ []
 
 -- what a lookup tells: the offset in force, the place of its entry, and the next threshold
-abbrev pub told : ℤ → Place → Threshold → Lookup
+abbrev pub told : ℤ → Option ℕ → Option ℕ → Lookup
 told n at above = record { offset = n; place = at; next = above }
 
 -- the built-in entries with the expiry of the list that says 28 June 2026: NTP second 3,991,593,600
@@ -125,10 +121,10 @@ examples week =
     regular (entry 0 (pos 19) ∷ entry 86_399_999_999_999 (pos 20) ∷ []) is false ∷
     regular (entry 0 (pos 19) ∷ entry 86_400_000_000_000 (pos 20) ∷ entry 172_799_999_999_999 (pos 21) ∷ []) is false ∷
     -- a lookup a nanosecond before the last threshold, at it and after it, and by no entry
-    lookup builtin 1_167_264_036_999_999_999 is told (pos 36) (place.At 17) (next.At (1_167_264_037 * second)) ∷
-    lookup builtin (1_167_264_037 * second) is told (pos 37) (place.At 18) next.Nothing ∷
-    lookup builtin (1_167_264_038 * second) is told (pos 37) (place.At 18) next.Nothing ∷
-    lookup [] 0 is told (pos 19) place.Nothing next.Nothing ∷
+    lookup builtin 1_167_264_036_999_999_999 is told (pos 36) (Some 17) (Some (1_167_264_037 * second)) ∷
+    lookup builtin (1_167_264_037 * second) is told (pos 37) (Some 18) None ∷
+    lookup builtin (1_167_264_038 * second) is told (pos 37) (Some 18) None ∷
+    lookup [] 0 is told (pos 19) None None ∷
     -- the second inserted at the end of June 1981, and the one after it, which has the same UTC count
     gps_to_civil builtin 46_828_800_999_999_999 is answered (fields (pos 1981) 6 30 23 59 60 999_999_999) ∷
     gps_to_civil builtin (46_828_801 * second) is answered (fields (pos 1981) 7 1 0 0 0 0) ∷

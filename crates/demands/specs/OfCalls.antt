@@ -1,8 +1,6 @@
 -- Demand 3 of the calls between GPS and UTC, pair by pair: it holds of whatever their contracts allow them to answer.
-use Rattle.std.specs.Prelude.{◌≡◌, true, List, ℕ, ◌^◌, ◌≤◌, ◌<◌, length}
-use Rattle.refusals.specs.Outcome.{Outcome, unless}
-use Rattle.counts.specs.Answers.{count_in}
-use Rattle.counts.specs.declared.CountAnswer.TheVariants as count
+use Rattle.std.specs.Prelude.{◌≡◌, true, List, ℕ, ◌^◌, ◌≤◌, ◌<◌, length, Ok}
+use Rattle.refusals.specs.Outcome.{Outcome, unless, outcome_in}
 use Rattle.scales.specs.Answers.{gps_in, utc_in}
 use Rattle.scales.specs.Scales.{tai_minus_gps}
 use Rattle.tables.specs.Entries.{Entry, regular}
@@ -51,11 +49,11 @@ ToGpsByValue t u = Allows utc_to_gps_lem.Post (λ κ a. (a.0.0 ≡ u) × (a.1.0 
 -- by an image, `images::table::utc_from_gps` and `gps_from_utc`
 abbrev pub ToUtcInPlace : List ℕ → ℕ → Outcome ℕ → Type 0
 ToUtcInPlace b g =
-    Allows image_utc_from_gps.Post (λ κ a. (a.0 ≡ count.Count g) × (a.1.0.now ≡ b)) (λ κ r e. count_in r)
+    Allows image_utc_from_gps.Post (λ κ a. (a.0 ≡ Ok g) × (a.1.0.now ≡ b)) (λ κ r e. outcome_in r)
 
 abbrev pub ToGpsInPlace : List ℕ → ℕ → Outcome ℕ → Type 0
 ToGpsInPlace b u =
-    Allows image_gps_from_utc.Post (λ κ a. (a.0 ≡ count.Count u) × (a.1.0.now ≡ b)) (λ κ r e. count_in r)
+    Allows image_gps_from_utc.Post (λ κ a. (a.0 ≡ Ok u) × (a.1.0.now ≡ b)) (λ κ r e. outcome_in r)
 
 -- and for hosts, `plaitgate_table_gps_to_utc` and `plaitgate_table_utc_to_gps`
 abbrev pub ToUtcExported : List ℕ → ℕ → Outcome ℕ → Type 0

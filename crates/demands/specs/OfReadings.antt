@@ -1,8 +1,7 @@
 -- Civil readings of the calls between GPS and civil time, pair by pair: `CivilReadings` holds of whatever their contracts
 -- allow them to answer.
 use Rattle.std.specs.Prelude.{◌≡◌, true, List, ℕ, ◌^◌, ◌≤◌, ◌<◌, length}
-use Rattle.refusals.specs.Outcome.{Outcome, unless}
-use Rattle.counts.specs.Answers.{count_in}
+use Rattle.refusals.specs.Outcome.{Outcome, unless, outcome_in}
 use Rattle.scales.specs.Answers.{gps_in}
 use Rattle.civil.specs.Fields.{fields}
 use Rattle.civil.specs.declared.CivilDateTime.{CivilDateTime}
@@ -11,7 +10,6 @@ use Rattle.tables.specs.Slots.{entries_of}
 use Rattle.tables.specs.declared.LeapTable.{LeapTable}
 use Rattle.images.specs.Image.{image_bytes, table_in}
 use Rattle.builtin.specs.Builtin.{builtin}
-use Rattle.readings.specs.Answers.{reading_in}
 use Rattle.readings.proofs.by_builtin.gps_to_civil.Reads as builtin_gps_to_civil
 use Rattle.readings.proofs.by_builtin.civil_to_gps.Reads as builtin_civil_to_gps
 use Rattle.plaitgate.proofs.civil_readings.plaitgate_table_gps_to_civil.Reads as host_to_civil
@@ -38,11 +36,11 @@ OnDays t = (t.len ≤ 64) × (on_days (entries_of t) ≡ true)
 pub record ReadingCalls : Type 0 where
   -- `readings::by_image::gps_to_civil` and `civil_to_gps`, by an image
   pub in_place : (b : List ℕ) → length b ≡ image_bytes → OnDays (table_in b) → CivilReadingsOf (entries_of (table_in b))
-      (λ g. Allows image_gps_to_civil.Post (λ κ a. (a.0.0 ≡ g) × (a.1.0.now ≡ b)) (λ κ r e. reading_in r))
-      (λ c. Allows image_civil_to_gps.Post (λ κ a. (a.0 ≡ c) × (a.1.0.now ≡ b)) (λ κ r e. count_in r))
+      (λ g. Allows image_gps_to_civil.Post (λ κ a. (a.0.0 ≡ g) × (a.1.0.now ≡ b)) (λ κ r e. outcome_in r))
+      (λ c. Allows image_civil_to_gps.Post (λ κ a. (a.0 ≡ c) × (a.1.0.now ≡ b)) (λ κ r e. outcome_in r))
   -- `readings::by_builtin::gps_to_civil` and `civil_to_gps`
   pub built_in : CivilReadingsOf builtin
-      (λ g. Allows builtin_gps_to_civil.Post (λ κ a. a.0.0 ≡ g) (λ κ r e. reading_in r))
+      (λ g. Allows builtin_gps_to_civil.Post (λ κ a. a.0.0 ≡ g) (λ κ r e. outcome_in r))
       (λ c. Allows builtin_civil_to_gps.Post (λ κ a. a.0 ≡ c) (λ κ r e. gps_in r))
   -- `plaitgate_table_gps_to_civil` and `plaitgate_table_civil_to_gps`, by an image
   pub exported : (b : List ℕ) → length b ≡ image_bytes → OnDays (table_in b) → CivilReadingsOf (entries_of (table_in b))

@@ -1,10 +1,8 @@
 -- Written by tools/write-scales from its template in tools/templates.
 -- Demand 3 of the calls between UTC and a scale whose counts are those of GPS less a fixed number: TAI − the scale is
 -- 19 s and that number. First for any such number, then of the calls of each scale, pair by pair.
-use Rattle.std.specs.Prelude.{◌≡◌, List, ℕ, ◌+◌, length}
-use Rattle.refusals.specs.Outcome.{unless}
-use Rattle.counts.specs.Answers.{count_in}
-use Rattle.counts.specs.declared.CountAnswer.TheVariants as count
+use Rattle.std.specs.Prelude.{◌≡◌, List, ℕ, ◌+◌, length, Ok}
+use Rattle.refusals.specs.Outcome.{unless, outcome_in}
 use Rattle.scales.specs.Answers.{utc_in, galileo_in, beidou_in}
 use Rattle.scales.specs.Scales.{tai_minus_gps, gps_minus_galileo, gps_minus_beidou}
 use Rattle.tables.specs.Slots.{entries_of}
@@ -36,9 +34,9 @@ pub record Demand3Shifted : Type 0 where
   pub in_place : (d : ℕ) (b : List ℕ) → length b ≡ image_bytes → Regular (table_in b)
       → TwoInstantsOf (entries_of (table_in b)) (tai_minus_gps + d)
       (λ n. Allows image_utc_from_shifted.Post
-      (λ κ a. (a.0 ≡ count.Count n) × (a.1.0.now ≡ b) × (a.1.1.0 ≡ d)) (λ κ r e. count_in r))
+      (λ κ a. (a.0 ≡ Ok n) × (a.1.0.now ≡ b) × (a.1.1.0 ≡ d)) (λ κ r e. outcome_in r))
       (λ u. Allows image_shifted_from_utc.Post
-      (λ κ a. (a.0 ≡ count.Count u) × (a.1.0.now ≡ b) × (a.1.1.0 ≡ d)) (λ κ r e. count_in r))
+      (λ κ a. (a.0 ≡ Ok u) × (a.1.0.now ≡ b) × (a.1.1.0 ≡ d)) (λ κ r e. outcome_in r))
   -- Galileo, by a table
   pub galileo_by_value : (t : LeapTable) → Regular t → TwoInstantsOf (entries_of t) (tai_minus_gps + gps_minus_galileo)
       (λ n. Allows galileo_to_utc.Post (λ κ a. (a.0.0 ≡ n) × (a.1.0 ≡ t)) (λ κ r e. utc_in r))

@@ -11,17 +11,16 @@ ghost use Rattle.refusals.specs.Outcome.{then};
 ghost use Rattle.counts.specs.Exact.{down};
 ghost use Rattle.counts.specs.Units.{second};
 ghost use Rattle.scales.specs.Scales.{tai_minus_gps};
-ghost use Rattle.tables.specs.Answers.{taken_in, table_answer_in};
+ghost use Rattle.tables.specs.Answers.{taken_in, table_answer_in, dated_in};
 ghost use Rattle.tables.specs.Slots.{table_of, entries_of, valid_table};
 ghost use Rattle.tables.specs.Expiry.{stale_at, dated};
-ghost use Rattle.conversions.specs.Answers.{dated_in};
 ghost use Rattle.conversions.specs.Shifted.{later_of};
 ghost use Rattle.images.specs.Image.{numbers_in, image_bytes, table_in, image_of, stored};
 
 use conversions::inner::by_table;
-use conversions::inner::dated::DatedCount;
+use conversions::inner::dated::Dated;
 use refusals::Refusal;
-use tables::{LeapTable, NO_EXPIRY, RUNTIME_CAPACITY, TableAnswer, Taken};
+use tables::{LeapTable, NO_EXPIRY, RUNTIME_CAPACITY, TableAnswer};
 use words::inner::{complement, number_in_4, number_in_8, put_number, signed};
 
 pub const LENGTH_BYTES: usize = 8;
@@ -48,7 +47,7 @@ pub const IMAGE_BYTES: usize = EXPIRY_AT + EXPIRY_BYTES;
 pub fn no_table(why: Refusal) -> TableAnswer
     ensures { table_answer_in result ≡ (number_of why, table_of []) }
 {
-    let answer = Taken::Refused(why);
+    let answer = Err(why);
     TableAnswer {
         answer,
         table: LeapTable::new(),
@@ -117,7 +116,7 @@ pub fn table_in(image: &[u8]) -> LeapTable
 
 // The count of a scale that is behind GPS, by the later of two GPS counts that share a UTC count. The table is copied for
 // that, where the earlier is before the scale's epoch.
-pub fn shifted_by_later(image: &[u8], gps: u64, behind: u64) -> DatedCount
+pub fn shifted_by_later(image: &[u8], gps: u64, behind: u64) -> Dated<u64>
     requires image_len { length image.now ≡ image_bytes }
     requires image_value { valid_table (table_in image.now) ≡ true }
     ensures { dated_in result ≡
@@ -149,15 +148,15 @@ pub fn put_table(image: &mut [u8], table: LeapTable)
 }
 
 // The image of the table in an answer, or its refusal and the bytes as they were.
-pub fn store(image: &mut [u8], after: TableAnswer) -> Taken
+pub fn store(image: &mut [u8], after: TableAnswer) -> Result<(), Refusal>
     requires { length image.old ≡ image_bytes }
     ensures { (taken_in result, image.new) ≡ stored image.old (table_answer_in after) }
 {
     let answer = after.answer;
-    if let Taken::Refused(why) = answer {
-        return Taken::Refused(why);
+    if let Err(why) = answer {
+        return Err(why);
     }
     let table = after.table;
     put_table(image, table);
-    Taken::Done
+    Ok(())
 }

@@ -2,38 +2,38 @@
 // offset, and any number of entries. It is checked and looked up where it stands. Bytes that are no whole number of
 // entries are no list, and every call refuses them by 8.
 ghost use Rattle.std.specs.Prelude.{◌≡◌, false, eqb, length};
-ghost use Rattle.refusals.specs.Outcome.{answered};
+ghost use Rattle.refusals.specs.Outcome.{answered, outcome_in};
 ghost use Rattle.tables.specs.Entries.{offset_at, current_offset, last_update};
-ghost use Rattle.tables.specs.Answers.{taken_in, length_in, empty_in, update_in, offset_in, dated_offset_in};
+ghost use Rattle.tables.specs.Answers.{taken_in, update_in, dated_in};
 ghost use Rattle.images.specs.Listed.{list_checked, of_listed};
 
 use crate::inner;
 use crate::inner::entries::pass_over;
 use refusals::Refusal;
 use scales::tai::Tai;
-use tables::{DatedOffset, EmptyAnswer, LengthAnswer, OffsetAnswer, Taken, UpdateAnswer};
+use tables::Dated;
 
 // The reading of a pass that looks nothing up.
 const NO_READING: u64 = 0;
 
 // Whether a list could be a table: 8, 6 where it is empty, then the first entry refused by 3, 7, 4.
-pub fn try_from_slice(entries: &[u8]) -> Taken
+pub fn try_from_slice(entries: &[u8]) -> Result<(), Refusal>
     ensures { taken_in result ≡ list_checked entries.now }
 {
     if entries.len() % inner::ENTRY_BYTES != 0 {
-        return Taken::Refused(Refusal::BadTable);
+        return Err(Refusal::BadTable);
     }
     lent::inner::check(pass_over(entries, NO_READING))
 }
 
 // The offset in force at a TAI reading. A list has no expiry, so it is never stale.
-pub fn tai_minus_utc_at(entries: &[u8], tai: Tai) -> DatedOffset
-    ensures { dated_offset_in result ≡
+pub fn tai_minus_utc_at(entries: &[u8], tai: Tai) -> Dated<i32>
+    ensures { dated_in result ≡
         (of_listed entries.now (λ es. answered (offset_at es tai.0)), false) }
 {
     if entries.len() % inner::ENTRY_BYTES != 0 {
-        return DatedOffset {
-            answer: OffsetAnswer::Refused(Refusal::BadTable),
+        return Dated {
+            answer: Err(Refusal::BadTable),
             stale: false,
         };
     }
@@ -41,40 +41,40 @@ pub fn tai_minus_utc_at(entries: &[u8], tai: Tai) -> DatedOffset
 }
 
 // The number of entries.
-pub fn len(entries: &[u8]) -> LengthAnswer
-    ensures { length_in result ≡ of_listed entries.now (λ es. answered (length es)) }
+pub fn len(entries: &[u8]) -> Result<usize, Refusal>
+    ensures { outcome_in result ≡ of_listed entries.now (λ es. answered (length es)) }
 {
     if entries.len() % inner::ENTRY_BYTES != 0 {
-        return LengthAnswer::Refused(Refusal::BadTable);
+        return Err(Refusal::BadTable);
     }
     lent::inner::length(pass_over(entries, NO_READING))
 }
 
-pub fn is_empty(entries: &[u8]) -> EmptyAnswer
-    ensures { empty_in result ≡ of_listed entries.now (λ es. answered (eqb (length es) 0)) }
+pub fn is_empty(entries: &[u8]) -> Result<bool, Refusal>
+    ensures { outcome_in result ≡ of_listed entries.now (λ es. answered (eqb (length es) 0)) }
 {
     if entries.len() % inner::ENTRY_BYTES != 0 {
-        return EmptyAnswer::Refused(Refusal::BadTable);
+        return Err(Refusal::BadTable);
     }
     lent::inner::emptiness(pass_over(entries, NO_READING))
 }
 
 // The threshold of the last event: nothing where there is at most the first entry.
-pub fn last_update(entries: &[u8]) -> UpdateAnswer
+pub fn last_update(entries: &[u8]) -> Result<Option<Tai>, Refusal>
     ensures { update_in result ≡ of_listed entries.now (λ es. answered (last_update es)) }
 {
     if entries.len() % inner::ENTRY_BYTES != 0 {
-        return UpdateAnswer::Refused(Refusal::BadTable);
+        return Err(Refusal::BadTable);
     }
     lent::inner::update(pass_over(entries, NO_READING))
 }
 
 // The offset of the last entry, or 19.
-pub fn current_tai_minus_utc(entries: &[u8]) -> OffsetAnswer
-    ensures { offset_in result ≡ of_listed entries.now (λ es. answered (current_offset es)) }
+pub fn current_tai_minus_utc(entries: &[u8]) -> Result<i32, Refusal>
+    ensures { outcome_in result ≡ of_listed entries.now (λ es. answered (current_offset es)) }
 {
     if entries.len() % inner::ENTRY_BYTES != 0 {
-        return OffsetAnswer::Refused(Refusal::BadTable);
+        return Err(Refusal::BadTable);
     }
     lent::inner::current(pass_over(entries, NO_READING))
 }

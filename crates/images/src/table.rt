@@ -4,14 +4,11 @@
 // without a copy.
 ghost use Rattle.std.specs.Prelude.{◌≡◌, eqb, length, ◌+◌};
 ghost use Rattle.std.proofs.Math.ListN.{get_elem?};
-ghost use Rattle.refusals.specs.Outcome.{answered, value_in, then};
-ghost use Rattle.counts.specs.Answers.{count_in};
+ghost use Rattle.refusals.specs.Outcome.{answered, value_in, then, outcome_in};
 ghost use Rattle.tables.specs.Entries.{entry, offset_at, current_offset, last_update};
-ghost use Rattle.tables.specs.Answers.{taken_in, table_answer_in, length_in, empty_in, entry_in, update_in, offset_in};
-ghost use Rattle.tables.specs.Answers.{dated_offset_in};
+ghost use Rattle.tables.specs.Answers.{taken_in, table_answer_in, entry_in, update_in, dated_in};
 ghost use Rattle.tables.specs.Expiry.{expiry_in};
 ghost use Rattle.scales.specs.Scales.{tai_minus_gps};
-ghost use Rattle.conversions.specs.Answers.{dated_in};
 ghost use Rattle.conversions.specs.Conversions.{gps_to_utc, last_reading, utc_to_gps};
 ghost use Rattle.conversions.specs.Shifted.{shifted_to_utc, utc_to_shifted, shifted_reading};
 ghost use Rattle.images.specs.Image.{by_image, dated_by_image, image_read, image_written, built_from};
@@ -20,18 +17,13 @@ ghost use Rattle.images.specs.Image.{table_in, image_extended, image_expiring};
 use crate::inner;
 use crate::inner::lookup::is_valid;
 use crate::inner::{lookup, slots};
-use conversions::inner::dated::{DatedCount, date};
-use conversions::inner::{
-    first_reading_of, gps_from_lookup, last_reading_of, reading_of, steps, tai_of, utc_from_lookup,
-};
-use counts::{CountAnswer, sums};
+use conversions::inner::dated::{Dated, date};
+use conversions::inner::{first_reading_of, gps_from_lookup, last_reading_of, reading_of, steps, tai_of, utc_from_lookup};
+use counts::sums;
 use refusals::Refusal;
 use scales::tai::Tai;
 use tables::inner::{OFFSET_OF_NO_ENTRY, dated_offset_in, is_stale};
-use tables::{
-    DatedOffset, EmptyAnswer, EntryAnswer, LeapEntry, LeapTable, LengthAnswer, LookupAnswer,
-    NO_EXPIRY, OffsetAnswer, RUNTIME_CAPACITY, TableAnswer, Taken, UpdateAnswer,
-};
+use tables::{Dated, LeapEntry, LeapTable, NO_EXPIRY, RUNTIME_CAPACITY, TableAnswer};
 
 // The table in an image, or 8 and the empty table where there are not 784 bytes.
 pub fn read(image: &[u8]) -> TableAnswer
@@ -41,20 +33,20 @@ pub fn read(image: &[u8]) -> TableAnswer
         return inner::no_table(Refusal::BadTable);
     }
     TableAnswer {
-        answer: Taken::Done,
+        answer: Ok(()),
         table: inner::table_in(image),
     }
 }
 
 // The image of a table, written over 784 bytes; 8 where there are not 784, and then nothing is written.
-pub fn write(table: LeapTable, image: &mut [u8]) -> Taken
+pub fn write(table: LeapTable, image: &mut [u8]) -> Result<(), Refusal>
     ensures { (taken_in result, image.new) ≡ image_written table image.old }
 {
     if image.len() != inner::IMAGE_BYTES {
-        return Taken::Refused(Refusal::BadTable);
+        return Err(Refusal::BadTable);
     }
     inner::put_table(image, table);
-    Taken::Done
+    Ok(())
 }
 
 // The table of a list of entries, 12 bytes each; 8 where the bytes are no whole number of entries.
@@ -82,12 +74,12 @@ pub fn build(entries: &[u8]) -> TableAnswer
 }
 
 // The image of the table with an entry joined at its end; on a refusal the image as it was.
-pub fn extend(image: &mut [u8], tai_nanos: u64, tai_minus_utc: i32) -> Taken
+pub fn extend(image: &mut [u8], tai_nanos: u64, tai_minus_utc: i32) -> Result<(), Refusal>
     ensures { (taken_in result, image.new) ≡
         image_extended image.old (entry tai_nanos tai_minus_utc) }
 {
     if image.len() != inner::IMAGE_BYTES {
-        return Taken::Refused(Refusal::BadTable);
+        return Err(Refusal::BadTable);
     }
     let before = inner::table_in(image);
     let after = before.try_extend(LeapEntry {
@@ -98,103 +90,103 @@ pub fn extend(image: &mut [u8], tai_nanos: u64, tai_minus_utc: i32) -> Taken
 }
 
 // The number of entries.
-pub fn len(image: &[u8]) -> LengthAnswer
-    ensures { length_in result ≡ by_image image.now (λ es. answered (length es)) }
+pub fn len(image: &[u8]) -> Result<usize, Refusal>
+    ensures { outcome_in result ≡ by_image image.now (λ es. answered (length es)) }
 {
     if is_valid(image) {
-        LengthAnswer::Length(slots::len(image))
+        Ok(slots::len(image))
     } else {
-        LengthAnswer::Refused(Refusal::BadTable)
+        Err(Refusal::BadTable)
     }
 }
 
-pub fn is_empty(image: &[u8]) -> EmptyAnswer
-    ensures { empty_in result ≡ by_image image.now (λ es. answered (eqb (length es) 0)) }
+pub fn is_empty(image: &[u8]) -> Result<bool, Refusal>
+    ensures { outcome_in result ≡ by_image image.now (λ es. answered (eqb (length es) 0)) }
 {
     if is_valid(image) {
-        EmptyAnswer::Empty(slots::len(image) == 0)
+        Ok(slots::len(image) == 0)
     } else {
-        EmptyAnswer::Refused(Refusal::BadTable)
+        Err(Refusal::BadTable)
     }
 }
 
 // The entry at a place, counted from 0.
-pub fn entry_at(image: &[u8], place: usize) -> EntryAnswer
+pub fn entry_at(image: &[u8], place: usize) -> Result<Option<LeapEntry>, Refusal>
     ensures { entry_in result ≡ by_image image.now (λ es. answered (get_elem? es place)) }
 {
     if !is_valid(image) {
-        return EntryAnswer::Refused(Refusal::BadTable);
+        return Err(Refusal::BadTable);
     }
     if place < slots::len(image) {
-        EntryAnswer::Entry(slots::entry(image, place))
+        Ok(Some(slots::entry(image, place)))
     } else {
-        EntryAnswer::Nothing
+        Ok(None)
     }
 }
 
 // The threshold of the last event: nothing where there is at most the first entry.
-pub fn last_update(image: &[u8]) -> UpdateAnswer
+pub fn last_update(image: &[u8]) -> Result<Option<Tai>, Refusal>
     ensures { update_in result ≡ by_image image.now (λ es. answered (last_update es)) }
 {
     if !is_valid(image) {
-        return UpdateAnswer::Refused(Refusal::BadTable);
+        return Err(Refusal::BadTable);
     }
     let n = slots::len(image);
     if 1 < n {
-        UpdateAnswer::At(Tai(slots::threshold(image, n - 1)))
+        Ok(Some(Tai(slots::threshold(image, n - 1))))
     } else {
-        UpdateAnswer::Nothing
+        Ok(None)
     }
 }
 
 // The offset of the last entry, or 19.
-pub fn current_tai_minus_utc(image: &[u8]) -> OffsetAnswer
-    ensures { offset_in result ≡ by_image image.now (λ es. answered (current_offset es)) }
+pub fn current_tai_minus_utc(image: &[u8]) -> Result<i32, Refusal>
+    ensures { outcome_in result ≡ by_image image.now (λ es. answered (current_offset es)) }
 {
     if !is_valid(image) {
-        return OffsetAnswer::Refused(Refusal::BadTable);
+        return Err(Refusal::BadTable);
     }
     let n = slots::len(image);
     if n == 0 {
-        OffsetAnswer::Offset(OFFSET_OF_NO_ENTRY)
+        Ok(OFFSET_OF_NO_ENTRY)
     } else {
-        OffsetAnswer::Offset(slots::offset(image, n - 1))
+        Ok(slots::offset(image, n - 1))
     }
 }
 
 // The offset in force at a TAI reading, and whether the table is stale there. Only an image has an expiry to read: bytes
 // of another size are refused by the lookup.
-pub fn tai_minus_utc_at(image: &[u8], tai: Tai) -> DatedOffset
-    ensures { dated_offset_in result ≡
+pub fn tai_minus_utc_at(image: &[u8], tai: Tai) -> Dated<i32>
+    ensures { dated_in result ≡
         dated_by_image image.now (λ es. tai.0) (λ es. answered (offset_at es tai.0)) }
 {
     let found = lookup::checked_look_up(image, tai.0);
-    dated_offset_in(found, slots::expiry(image), tai.0)
+    dated_in(found, slots::expiry(image), tai.0)
 }
 
 // The TAI reading from which on the table is stale, or nothing.
-pub fn expiry(image: &[u8]) -> UpdateAnswer
+pub fn expiry(image: &[u8]) -> Result<Option<Tai>, Refusal>
     ensures { update_in result ≡
         by_image image.now (λ es. answered (expiry_in (table_in image.now))) }
 {
     if !is_valid(image) {
-        return UpdateAnswer::Refused(Refusal::BadTable);
+        return Err(Refusal::BadTable);
     }
     let expiry = slots::expiry(image);
     if expiry == NO_EXPIRY {
-        UpdateAnswer::Nothing
+        Ok(None)
     } else {
-        UpdateAnswer::At(Tai(expiry))
+        Ok(Some(Tai(expiry)))
     }
 }
 
 // The image of the table with this expiry in place of its own; the largest count takes it away. On a refusal the image
 // as it was.
-pub fn set_expiry(image: &mut [u8], expiry: Tai) -> Taken
+pub fn set_expiry(image: &mut [u8], expiry: Tai) -> Result<(), Refusal>
     ensures { (taken_in result, image.new) ≡ image_expiring image.old expiry.0 }
 {
     if image.len() != inner::IMAGE_BYTES {
-        return Taken::Refused(Refusal::BadTable);
+        return Err(Refusal::BadTable);
     }
     let before = inner::table_in(image);
     let after = before.with_expiry(expiry);
@@ -203,10 +195,10 @@ pub fn set_expiry(image: &mut [u8], expiry: Tai) -> Taken
 
 // Refuses 8, then what the step before refused, then 1, 9, 1: the table, the TAI reading, the offset, the result. The
 // expiry is read before the lookup: after it the compiler leaves the function out of line.
-pub fn utc_from_gps(gps: CountAnswer, image: &[u8]) -> DatedCount
+pub fn utc_from_gps(gps: Result<u64, Refusal>, image: &[u8]) -> Dated<u64>
     ensures { dated_in result ≡
-        dated_by_image image.now (λ es. value_in 0 (count_in gps) + tai_minus_gps)
-        (λ es. then (count_in gps) (gps_to_utc es)) }
+        dated_by_image image.now (λ es. value_in 0 (outcome_in gps) + tai_minus_gps)
+        (λ es. then (outcome_in gps) (gps_to_utc es)) }
 {
     let tai = tai_of(gps);
     let reading = reading_of(tai);
@@ -217,48 +209,48 @@ pub fn utc_from_gps(gps: CountAnswer, image: &[u8]) -> DatedCount
 
 // Refuses 8, then what the step before refused, then 9, 1: the table, the offset, the result. Where a UTC count repeats
 // it is the first of two.
-pub fn gps_from_utc(utc: CountAnswer, image: &[u8]) -> DatedCount
+pub fn gps_from_utc(utc: Result<u64, Refusal>, image: &[u8]) -> Dated<u64>
     ensures { dated_in result ≡
-        dated_by_image image.now (λ es. last_reading es (value_in 0 (count_in utc)))
-        (λ es. then (count_in utc) (utc_to_gps es)) }
+        dated_by_image image.now (λ es. last_reading es (value_in 0 (outcome_in utc)))
+        (λ es. then (outcome_in utc) (utc_to_gps es)) }
 {
     let a = first_reading_of(utc);
     match lookup::checked_look_up(image, a) {
-        LookupAnswer::Told(first) => {
+        Ok(first) => {
             let b = last_reading_of(utc, first, a);
             let found = lookup::look_up(image, b);
             let stale = is_stale(slots::expiry(image), b);
             date(gps_from_lookup(found, utc), stale)
         }
-        LookupAnswer::Refused(why) => date(CountAnswer::Refused(why), false),
+        Err(why) => date(Err(why), false),
     }
 }
 
 // A scale that is behind GPS, to UTC: the difference is added, then as `utc_from_gps`.
-pub fn utc_from_shifted(count: CountAnswer, image: &[u8], behind: u64) -> DatedCount
+pub fn utc_from_shifted(count: Result<u64, Refusal>, image: &[u8], behind: u64) -> Dated<u64>
     ensures { dated_in result ≡
-        dated_by_image image.now (λ es. value_in 0 (count_in count) + behind + tai_minus_gps)
-        (λ es. then (count_in count) (shifted_to_utc behind es)) }
+        dated_by_image image.now (λ es. value_in 0 (outcome_in count) + behind + tai_minus_gps)
+        (λ es. then (outcome_in count) (shifted_to_utc behind es)) }
 {
     utc_from_gps(steps::up(count, behind), image)
 }
 
 // UTC to a scale that is behind GPS: as `gps_from_utc`, then 1 before the scale's epoch.
-pub fn shifted_from_utc(utc: CountAnswer, image: &[u8], behind: u64) -> DatedCount
+pub fn shifted_from_utc(utc: Result<u64, Refusal>, image: &[u8], behind: u64) -> Dated<u64>
     ensures { dated_in result ≡
-        dated_by_image image.now (λ es. shifted_reading behind es (value_in 0 (count_in utc)))
-        (λ es. then (count_in utc) (utc_to_shifted behind es)) }
+        dated_by_image image.now (λ es. shifted_reading behind es (value_in 0 (outcome_in utc)))
+        (λ es. then (outcome_in utc) (utc_to_shifted behind es)) }
 {
     let found = gps_from_utc(utc, image);
     let first = found.answer;
     match first {
-        CountAnswer::Count(gps) => {
+        Ok(gps) => {
             if gps < behind {
                 inner::shifted_by_later(image, gps, behind)
             } else {
                 date(sums::minus(gps, behind), found.stale)
             }
         }
-        CountAnswer::Refused(why) => date(CountAnswer::Refused(why), false),
+        Err(why) => date(Err(why), false),
     }
 }

@@ -21,7 +21,6 @@ use std::env::{Env, FillError};
 use std::fs::File;
 use std::io::{Read, Write};
 use std::time::Clock;
-use tables::Taken;
 
 // The longest report: 64 lines of at most 73 bytes, one of at most 39, and one of at most 29.
 const LONGEST_REPORT: usize = 64 * 73 + 39 + 29;
@@ -38,8 +37,8 @@ pub fn report(bytes: &[u8], out: &mut [u8]) -> usize
     let answer = read.answer;
     let table = read.table;
     match answer {
-        Taken::Done => put_table(table, read.dropped, out),
-        Taken::Refused(refusal) => put_refusal(out, 0, refusal, read.line, bytes),
+        Ok(()) => put_table(table, read.dropped, out),
+        Err(refusal) => put_refusal(out, 0, refusal, read.line, bytes),
     }
 }
 
@@ -59,8 +58,8 @@ pub fn since(old: &[u8], new: &[u8], out: &mut [u8]) -> usize
     let answer = read.answer;
     let table = read.table;
     match answer {
-        Taken::Done => put_with_new(table, new, out),
-        Taken::Refused(refusal) => put_refused_file(b"OLD ", refusal, read.line, old, out),
+        Ok(()) => put_with_new(table, new, out),
+        Err(refusal) => put_refused_file(b"OLD ", refusal, read.line, old, out),
     }
 }
 

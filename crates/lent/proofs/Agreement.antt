@@ -1,23 +1,25 @@
 -- The lent forms agree with the calls by value: both answer by the same definitions.
+use Rattle.std.specs.Prelude.{Result, ℤ}
 use mathlib.Core.Path.{◌≡◌, sym, ap, ◌∙◌}
 use mathlib.Core.Bool.{false}
 use mathlib.Core.List.{List}
 use Prim.Native.Nat.{ℕ, ◌≤◌}
 use borrow.Author.Tests.{le-leb, le-ltb}
 use lib.ListN.{length}
+use Rattle.tables.specs.declared.Dated.{Dated}
+use Rattle.refusals.specs.declared.Refusal.{Refusal}
+use Rattle.refusals.proofs.Tells.{outcome_tells}
 use Rattle.refusals.specs.Outcome.{Outcome, answered}
-use Rattle.tables.specs.Answers.{taken_in, table_answer_in, dated_offset_in}
+use Rattle.tables.specs.Answers.{taken_in, table_answer_in, dated_in}
 use Rattle.tables.specs.Entries.{Entry, offset_at, checking}
 use Rattle.tables.specs.Slots.{entries_of, of_valid, extended, built}
 use Rattle.tables.specs.Expiry.{stale_at, by_table}
 use Rattle.tables.specs.declared.LeapEntry.{LeapEntry}
 use Rattle.tables.specs.declared.LeapTable.{LeapTable}
 use Rattle.tables.specs.declared.TableAnswer.{TableAnswer}
-use Rattle.tables.specs.declared.DatedOffset.{DatedOffset}
-use Rattle.tables.specs.declared.Taken.{Taken}
 use Rattle.tables.proofs.Buildings.{Builds, building_builds}
 use Rattle.tables.proofs.Stale.{answer-kept}
-use Rattle.tables.proofs.Tells.{taken_tells, offset_tells}
+use Rattle.tables.proofs.Tells.{taken_tells}
 use Rattle.lent.specs.Lists.{of_valid_list}
 
 -- a table's own entries, lent as a list, are refused 8 exactly where the table is: what is answered of the one is
@@ -35,9 +37,9 @@ LookedUpAlike =
 -- and two answers that meet the contracts of the two lookups are the same offset; of the list it is never stale
 abbrev pub AnsweredAlike : Type 0
 AnsweredAlike =
-    (t : LeapTable) (reading : ℕ) (lent by_value : DatedOffset) → t.len ≤ 64
-    → dated_offset_in lent ≡ (of_valid_list (entries_of t) (answered (offset_at (entries_of t) reading)), false)
-    → dated_offset_in by_value ≡ by_table t reading (answered (offset_at (entries_of t) reading))
+    (t : LeapTable) (reading : ℕ) (lent by_value : Dated ℤ) → t.len ≤ 64
+    → dated_in lent ≡ (of_valid_list (entries_of t) (answered (offset_at (entries_of t) reading)), false)
+    → dated_in by_value ≡ by_table t reading (answered (offset_at (entries_of t) reading))
     → lent.answer ≡ by_value.answer
 
 -- the check of at most 64 entries gives the number that building from them gives: 0, or the same refusal
@@ -51,13 +53,13 @@ CheckedBuilds = (es : List Entry) → length es ≤ 64 → checking es ≡ 0 →
 -- and answers that meet the contracts of the check and of building are the same
 abbrev pub JudgedAlike : Type 0
 JudgedAlike =
-    (es : List Entry) (checked : Taken) (x : TableAnswer) → length es ≤ 64
+    (es : List Entry) (checked : Result Unit Refusal) (x : TableAnswer) → length es ≤ 64
     → taken_in checked ≡ checking es → table_answer_in x ≡ built es → checked ≡ x.answer
 
 -- an extension in place gives the answer of the extension by value, and leaves its table
 abbrev pub ExtendedAlike : Type 0
 ExtendedAlike =
-    (t : LeapTable) (e : LeapEntry) (lent : Taken) (after : LeapTable) (by_value : TableAnswer)
+    (t : LeapTable) (e : LeapEntry) (lent : Result Unit Refusal) (after : LeapTable) (by_value : TableAnswer)
     → (taken_in lent, after) ≡ extended t e → table_answer_in by_value ≡ extended t e
     → (lent ≡ by_value.answer) × (after ≡ by_value.table)
 
@@ -70,7 +72,7 @@ looked_up_alike t reading few = refused_alike _ t (answered (offset_at (entries_
 pub answered_alike : AnsweredAlike
 answered_alike t reading lent by_value few p q =
     let found = answered (offset_at (entries_of t) reading) in
-    offset_tells lent.answer by_value.answer
+    outcome_tells lent.answer by_value.answer
     ((λ i. (p i).0) ∙ looked_up_alike t reading few
     ∙ sym ((λ i. (q i).0) ∙ answer-kept (stale_at t.expiry reading) (of_valid t found)))
 

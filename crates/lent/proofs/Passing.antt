@@ -1,5 +1,6 @@
 -- The pass over a list, one entry on and as a whole: it counts the entries, keeps the last one and the one in force,
 -- and finds the first refusal.
+use Rattle.std.specs.Prelude.{Option, Some, ℤ}
 use mathlib.Core.Path.{◌≡◌, refl, sym, ap, ◌∙◌}
 use mathlib.Core.Bool.{Bool, true, false, cond, ◌&&◌}
 use mathlib.Core.List.{List, [], ◌∷◌}
@@ -18,8 +19,6 @@ use Rattle.tables.specs.Answers.{taken_in}
 use Rattle.tables.specs.Entries.{Entry, threshold, offset, entry, equal, neighbours, follows, valid, telling, in_force}
 use Rattle.tables.specs.Entries.{lookup, last_or, current_offset, last_update, step_refusal, first_refusal, checking}
 use Rattle.tables.specs.declared.Lookup.{Lookup}
-use Rattle.tables.specs.declared.Threshold.{Threshold}
-use Rattle.tables.specs.declared.Threshold.TheVariants as next
 use Rattle.tables.proofs.Neighbours.{both, step_follows}
 use Rattle.lent.specs.declared.inner.Pass.{Pass}
 use Rattle.lent.specs.Pass.{Seen, seen_in, begun, after, passed, judged, check_at, update_at, or_first, before_threshold, nearer}
@@ -117,7 +116,7 @@ module _ (t : ℕ) where
 
   -- at a reading below an entry of a valid list, no later one changes what is told
   none-nearer : (k x : ℕ) (p : Entry) (f : Lookup) (es : List Entry) → valid (p ∷ es) ≡ true → t < threshold p
-      → f.next ≡ next.At x → found_on t k f es ≡ f
+      → f.next ≡ Some x → found_on t k f es ≡ f
   unfolding neighbours found_on
   none-nearer k x p f [] v l n = refl
   none-nearer k x p f (e ∷ es) v l n =
@@ -125,7 +124,7 @@ module _ (t : ℕ) where
       let rises = (both (ltb (threshold p) (threshold e)) (equal (offset e) (offset p +ℤ pos 1)) h.0).0 in
       let up = ltb-true (threshold p) (threshold e) rises in
       let a : t < threshold e = omega arith in
-      let same : before_threshold f (threshold e) ≡ f = ap (λ (y : Threshold). record { offset = f.offset; place = f.place; next = or_first y (threshold e) }) n ∙ ap (λ (y : Threshold). record { offset = f.offset; place = f.place; next = y }) (sym n) in
+      let same : before_threshold f (threshold e) ≡ f = ap (λ (y : Option ℕ). record { offset = f.offset; place = f.place; next = or_first y (threshold e) }) n ∙ ap (λ (y : Option ℕ). record { offset = f.offset; place = f.place; next = y }) (sym n) in
       rw (positive k, lt-leb (threshold e) t a, same) (none-nearer (suc k) x e f es h.1 a n)
 
   -- after an entry that is told, with nothing after it yet

@@ -1,8 +1,8 @@
 -- What every call answers for one list. Only contracts of functions in `inner` cite it.
 use Rattle.std.specs.Prelude.{Bool, false, List, ℕ, eqb, length, ℤ}
 use Rattle.std.proofs.Math.Option.{Option}
-use Rattle.refusals.specs.Outcome.{Outcome, answered}
-use Rattle.tables.specs.Answers.{taken_in, length_in, empty_in, update_in, offset_in, dated_offset_in}
+use Rattle.refusals.specs.Outcome.{Outcome, answered, outcome_in}
+use Rattle.tables.specs.Answers.{taken_in, update_in, dated_in}
 use Rattle.tables.specs.Entries.{Entry, checking, offset_at, current_offset, last_update}
 use Rattle.lent.specs.Lists.{of_valid_list}
 use Rattle.lent.specs.declared.inner.copied.Answers.{Answers}
@@ -18,11 +18,11 @@ pub record ListAnswers : Type 0 where
 abbrev pub answers_in : Answers → ListAnswers
 answers_in r = record {
   check = taken_in r.check;
-  size = length_in r.length;
-  empty = empty_in r.empty;
+  size = outcome_in r.length;
+  empty = outcome_in r.empty;
   update = update_in r.update;
-  current = offset_in r.current;
-  in_force = dated_offset_in r.in_force;
+  current = outcome_in r.current;
+  in_force = dated_in r.in_force;
 }
 
 -- a list, at a TAI reading

@@ -1,14 +1,12 @@
 -- One pass over a list, from its first entry to its last: what is known of the entries passed. Only contracts of
 -- private functions cite it.
-use Rattle.std.specs.Prelude.{cond, ◌||◌, List, [], ◌∷◌, ℕ, ◌+◌, leb, eqb, pos}
-use Rattle.std.proofs.Math.Option.{Option, none, some}
+use Rattle.std.specs.Prelude.{cond, ◌||◌, List, [], ◌∷◌, ℕ, ◌+◌, leb, eqb, pos, None, Option, Result, Some}
+use Rattle.std.proofs.Math.Option as maybe
+use Rattle.refusals.specs.declared.Refusal.{Refusal}
 use Rattle.refusals.specs.Outcome.{Outcome, refused}
 use Rattle.tables.specs.Answers.{taken_in}
 use Rattle.tables.specs.Entries.{Entry, threshold, entry, telling, lookup, step_refusal}
 use Rattle.tables.specs.declared.Lookup.{Lookup}
-use Rattle.tables.specs.declared.Taken.{Taken}
-use Rattle.tables.specs.declared.Threshold.{Threshold}
-use Rattle.tables.specs.declared.Threshold.TheVariants as next
 use Rattle.lent.specs.declared.inner.Pass.{Pass}
 
 -- at a TAI reading: how many entries were passed, the last of them, what a lookup in them tells, and the first refusal
@@ -28,9 +26,9 @@ abbrev pub begun : ℕ → Seen
 begun t = record { tai = t; count = 0; last = entry 0 (pos 19); found = lookup [] 0; refusal = 0 }
 
 -- a threshold, or the given one where there is none
-abbrev pub or_first : Threshold → ℕ → Threshold
-or_first (next.At y) x = next.At y
-or_first next.Nothing x = next.At x
+abbrev pub or_first : Option ℕ → ℕ → Option ℕ
+or_first (Some y) x = Some y
+or_first None x = Some x
 
 -- with a threshold above the reading: the first of them is the next
 abbrev pub before_threshold : Lookup → ℕ → Lookup
@@ -64,8 +62,8 @@ abbrev pub check_at : ℕ → ℕ → ℕ
 check_at count k = cond (eqb count 0) 6 k
 
 -- the others, 8 where an entry was refused
-abbrev pub of_taken : {A : Type 0} → Taken → Outcome A → Outcome A
+abbrev pub of_taken : {A : Type 0} → Result Unit Refusal → Outcome A → Outcome A
 of_taken answer a = cond (eqb (taken_in answer) 0) a (refused 8)
 
-abbrev pub update_at : ℕ → Entry → Option ℕ
-update_at count last = cond (leb count 1) none (some (threshold last))
+abbrev pub update_at : ℕ → Entry → maybe.Option ℕ
+update_at count last = cond (leb count 1) maybe.none (maybe.some (threshold last))

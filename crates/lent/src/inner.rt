@@ -2,19 +2,16 @@
 pub mod copied;
 
 ghost use Rattle.std.specs.Prelude.{◌≡◌, false, ◌+◌, ◌<◌, ◌^◌, eqb};
-ghost use Rattle.refusals.specs.Outcome.{answered};
+ghost use Rattle.refusals.specs.Outcome.{answered, outcome_in};
 ghost use Rattle.tables.specs.Entries.{offset, valid};
-ghost use Rattle.tables.specs.Answers.{taken_in, length_in, empty_in, update_in, lookup_in, offset_in, dated_offset_in};
+ghost use Rattle.tables.specs.Answers.{taken_in, update_in, dated_in};
 ghost use Rattle.lent.specs.Pass.{seen_in, begun, before_threshold, nearer, judged, after, passed};
 ghost use Rattle.lent.specs.Pass.{check_at, of_taken, update_at};
 
 use refusals::Refusal;
 use scales::tai::Tai;
 use tables::inner::{OFFSET_OF_NO_ENTRY, dated_offset_in, step, told_of_none};
-use tables::{
-    DatedOffset, EmptyAnswer, LeapEntry, LengthAnswer, Lookup, LookupAnswer, NO_EXPIRY,
-    OffsetAnswer, Place, Taken, Threshold, UpdateAnswer,
-};
+use tables::{Dated, LeapEntry, Lookup, NO_EXPIRY};
 
 // What is known of the entries so far, at a TAI reading.
 #[derive(Clone, Copy)]
@@ -26,7 +23,7 @@ pub struct Pass {
     // what a lookup in them tells
     pub found: Lookup,
     // the first refusal of an entry by the one before it
-    pub answer: Taken,
+    pub answer: Result<(), Refusal>,
 }
 
 // Before the first entry.
@@ -42,7 +39,7 @@ pub fn begin(tai: u64) -> Pass
         count: 0,
         last: none,
         found: told_of_none(),
-        answer: Taken::Done,
+        answer: Ok(()),
     }
 }
 
@@ -53,11 +50,11 @@ fn before_threshold(found: Lookup, threshold: u64) -> Lookup
     let next = found.next;
     let place = found.place;
     match next {
-        Threshold::At(_) => found,
-        Threshold::Nothing => Lookup {
+        Some(_) => found,
+        None => Lookup {
             offset: found.offset,
             place,
-            next: Threshold::At(threshold),
+            next: Some(threshold),
         },
     }
 }
@@ -69,8 +66,8 @@ fn pick(tai: u64, place: usize, found: Lookup, next: LeapEntry) -> Lookup
     if (place == 0) | (next.tai_nanos <= tai) {
         Lookup {
             offset: next.tai_minus_utc,
-            place: Place::At(place),
-            next: Threshold::Nothing,
+            place: Some(place),
+            next: None,
         }
     } else {
         before_threshold(found, next.tai_nanos)
@@ -78,12 +75,12 @@ fn pick(tai: u64, place: usize, found: Lookup, next: LeapEntry) -> Lookup
 }
 
 // Folds one entry into the first refusal.
-fn judge(answer: Taken, before: LeapEntry, next: LeapEntry) -> Taken
+fn judge(answer: Result<(), Refusal>, before: LeapEntry, next: LeapEntry) -> Result<(), Refusal>
     ensures { taken_in result ≡ judged (taken_in answer) before next }
 {
     match answer {
-        Taken::Done => step(before, next),
-        Taken::Refused(why) => Taken::Refused(why),
+        Ok(()) => step(before, next),
+        Err(why) => Err(why),
     }
 }
 
@@ -104,7 +101,7 @@ pub fn pass_on(pass: Pass, next: LeapEntry) -> Pass
             count: 1,
             last: next,
             found,
-            answer: Taken::Done,
+            answer: Ok(()),
         };
     }
     let answer = judge(so_far, before, next);
@@ -118,66 +115,66 @@ pub fn pass_on(pass: Pass, next: LeapEntry) -> Pass
 }
 
 // The check: 6 where there is no entry, else the first refusal.
-pub fn check(pass: Pass) -> Taken
+pub fn check(pass: Pass) -> Result<(), Refusal>
     ensures { taken_in result ≡ check_at pass.count (taken_in pass.answer) }
 {
     let answer = pass.answer;
     if pass.count == 0 {
-        Taken::Refused(Refusal::EmptyTable)
+        Err(Refusal::EmptyTable)
     } else {
         answer
     }
 }
 
-pub fn length(pass: Pass) -> LengthAnswer
-    ensures { length_in result ≡ of_taken pass.answer (answered pass.count) }
+pub fn length(pass: Pass) -> Result<usize, Refusal>
+    ensures { outcome_in result ≡ of_taken pass.answer (answered pass.count) }
 {
     let answer = pass.answer;
     match answer {
-        Taken::Done => LengthAnswer::Length(pass.count),
-        Taken::Refused(_) => LengthAnswer::Refused(Refusal::BadTable),
+        Ok(()) => Ok(pass.count),
+        Err(_) => Err(Refusal::BadTable),
     }
 }
 
-pub fn emptiness(pass: Pass) -> EmptyAnswer
-    ensures { empty_in result ≡ of_taken pass.answer (answered (eqb pass.count 0)) }
+pub fn emptiness(pass: Pass) -> Result<bool, Refusal>
+    ensures { outcome_in result ≡ of_taken pass.answer (answered (eqb pass.count 0)) }
 {
     let answer = pass.answer;
     match answer {
-        Taken::Done => EmptyAnswer::Empty(pass.count == 0),
-        Taken::Refused(_) => EmptyAnswer::Refused(Refusal::BadTable),
+        Ok(()) => Ok(pass.count == 0),
+        Err(_) => Err(Refusal::BadTable),
     }
 }
 
 // The threshold of the last event: nothing where there is at most the first entry.
-pub fn update(pass: Pass) -> UpdateAnswer
+pub fn update(pass: Pass) -> Result<Option<Tai>, Refusal>
     ensures { update_in result ≡ of_taken pass.answer (answered (update_at pass.count pass.last)) }
 {
     let answer = pass.answer;
     let last = pass.last;
-    if let Taken::Refused(_) = answer {
-        return UpdateAnswer::Refused(Refusal::BadTable);
+    if let Err(_) = answer {
+        return Err(Refusal::BadTable);
     }
     if pass.count <= 1 {
-        UpdateAnswer::Nothing
+        Ok(None)
     } else {
-        UpdateAnswer::At(Tai(last.tai_nanos))
+        Ok(Some(Tai(last.tai_nanos)))
     }
 }
 
 // An entry's offset, or 8 where the entries are refused.
-fn offset_of(answer: Taken, entry: LeapEntry) -> OffsetAnswer
-    ensures { offset_in result ≡ of_taken answer (answered (offset entry)) }
+fn offset_of(answer: Result<(), Refusal>, entry: LeapEntry) -> Result<i32, Refusal>
+    ensures { outcome_in result ≡ of_taken answer (answered (offset entry)) }
 {
     match answer {
-        Taken::Done => OffsetAnswer::Offset(entry.tai_minus_utc),
-        Taken::Refused(_) => OffsetAnswer::Refused(Refusal::BadTable),
+        Ok(()) => Ok(entry.tai_minus_utc),
+        Err(_) => Err(Refusal::BadTable),
     }
 }
 
 // The offset of the last entry, or 19.
-pub fn current(pass: Pass) -> OffsetAnswer
-    ensures { offset_in result ≡ of_taken pass.answer (answered (offset pass.last)) }
+pub fn current(pass: Pass) -> Result<i32, Refusal>
+    ensures { outcome_in result ≡ of_taken pass.answer (answered (offset pass.last)) }
 {
     let answer = pass.answer;
     let last = pass.last;
@@ -185,22 +182,22 @@ pub fn current(pass: Pass) -> OffsetAnswer
 }
 
 // What is in force at the reading.
-pub fn look_up(pass: Pass) -> LookupAnswer
-    ensures { lookup_in result ≡ of_taken pass.answer (answered pass.found) }
+pub fn look_up(pass: Pass) -> Result<Lookup, Refusal>
+    ensures { outcome_in result ≡ of_taken pass.answer (answered pass.found) }
 {
     let answer = pass.answer;
     let found = pass.found;
     match answer {
-        Taken::Done => LookupAnswer::Told(found),
-        Taken::Refused(_) => LookupAnswer::Refused(Refusal::BadTable),
+        Ok(()) => Ok(found),
+        Err(_) => Err(Refusal::BadTable),
     }
 }
 
 // The offset in force at the reading. A lent list has no expiry.
-pub fn in_force(pass: Pass) -> DatedOffset
-    ensures { dated_offset_in result ≡ (of_taken pass.answer (answered pass.found.offset), false) }
+pub fn in_force(pass: Pass) -> Dated<i32>
+    ensures { dated_in result ≡ (of_taken pass.answer (answered pass.found.offset), false) }
 {
-    dated_offset_in(look_up(pass), NO_EXPIRY, pass.tai)
+    dated_in(look_up(pass), NO_EXPIRY, pass.tai)
 }
 
 // The pass itself, the only loop over a lent list. No entry is refused exactly if the list is valid.

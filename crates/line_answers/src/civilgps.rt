@@ -9,18 +9,17 @@ ghost use Rattle.line_answers.specs.Civilgps.{gps_of_line, answer_to};
 
 use crate::LONGEST_ANSWER;
 use lines::inner::put::put_refused;
-use scales::gps::{Gps, GpsAnswer};
-use stamps::StampAnswer;
+use scales::gps::Gps;
 use texts::inner::LINE_END;
 use words::inner::digits::put_count;
 
 // The GPS count of a line that is a civil date and time.
-fn gps_of_line(line: &[u8]) -> GpsAnswer
+fn gps_of_line(line: &[u8]) -> Result<Gps, Refusal>
     ensures { gps_in result ≡ gps_of_line line.now }
 {
     match stamps::read(line) {
-        StampAnswer::Fields(civil) => readings::by_builtin::civil_to_gps(civil),
-        StampAnswer::Refused(refusal) => GpsAnswer::Refused(refusal),
+        Ok(civil) => readings::by_builtin::civil_to_gps(civil),
+        Err(refusal) => Err(refusal),
     }
 }
 
@@ -42,7 +41,7 @@ pub fn answer_line(line: &[u8], out: &mut [u8]) -> usize
         return 0;
     }
     match gps_of_line(line) {
-        GpsAnswer::Count(gps) => put_gps(gps, out),
-        GpsAnswer::Refused(refusal) => put_refused(refusal, out),
+        Ok(gps) => put_gps(gps, out),
+        Err(refusal) => put_refused(refusal, out),
     }
 }

@@ -1,27 +1,24 @@
 // gpscivil: a GPS count in decimal digits is answered by its civil reading by the built-in table, in which an inserted
 // second is 23:59:60.
 ghost use Rattle.std.specs.Prelude.{◌≡◌, ◌≤◌, length};
-ghost use Rattle.refusals.specs.Outcome.{answered};
-ghost use Rattle.readings.specs.Answers.{reading_in};
+ghost use Rattle.refusals.specs.Outcome.{answered, outcome_in};
 ghost use Rattle.stamps.specs.Form.{Fits, written};
 ghost use Rattle.lines.specs.OutcomeLine.{Puts, PutsWithRoom, line_of};
 ghost use Rattle.line_answers.specs.Gpscivil.{reading_of_line, answer_to};
 
 use crate::LONGEST_ANSWER;
 use civil::CivilDateTime;
-use counts::CountAnswer;
 use lines::inner::put::put_refused;
-use readings::ReadingAnswer;
 use scales::gps::Gps;
 use texts::inner::LINE_END;
 
 // The civil reading of a line that is a GPS count.
-fn reading_of_line(line: &[u8]) -> ReadingAnswer
-    ensures { reading_in result ≡ reading_of_line line.now }
+fn reading_of_line(line: &[u8]) -> Result<CivilDateTime, Refusal>
+    ensures { outcome_in result ≡ reading_of_line line.now }
 {
     match words::digits::read_count(line) {
-        CountAnswer::Count(gps) => readings::by_builtin::gps_to_civil(Gps(gps)),
-        CountAnswer::Refused(refusal) => ReadingAnswer::Refused(refusal),
+        Ok(gps) => readings::by_builtin::gps_to_civil(Gps(gps)),
+        Err(refusal) => Err(refusal),
     }
 }
 
@@ -44,7 +41,7 @@ pub fn answer_line(line: &[u8], out: &mut [u8]) -> usize
         return 0;
     }
     match reading_of_line(line) {
-        ReadingAnswer::Fields(fields) => put_civil(fields, out),
-        ReadingAnswer::Refused(refusal) => put_refused(refusal, out),
+        Ok(fields) => put_civil(fields, out),
+        Err(refusal) => put_refused(refusal, out),
     }
 }

@@ -14,7 +14,6 @@ ghost use Rattle.plaitgate.specs.Tables.{dated_as, with_stale};
 use crate::give;
 use builtin::inner::shifted;
 use conversions::inner::{dated, steps};
-use counts::CountAnswer;
 use images::table;
 use scales::beidou::Beidou;
 use scales::gps::Gps;
@@ -37,7 +36,7 @@ pub extern "C" fn plaitgate_gps_to_beidou(gps: u64, beidou: &mut u64) -> u32
 pub extern "C" fn plaitgate_builtin_beidou_to_utc(beidou: u64, utc: &mut u64) -> u32
     ensures { Gives 0 (shifted_to_utc gps_minus_beidou builtin beidou) result utc.new }
 {
-    let count = CountAnswer::Count(beidou);
+    let count = Ok(beidou);
     let answer = shifted::utc_from_shifted(count, Beidou::BEHIND_GPS_NS);
     give::count(answer, utc)
 }
@@ -46,7 +45,7 @@ pub extern "C" fn plaitgate_builtin_beidou_to_utc(beidou: u64, utc: &mut u64) ->
 pub extern "C" fn plaitgate_builtin_utc_to_beidou(utc: u64, beidou: &mut u64) -> u32
     ensures { Gives 0 (utc_to_shifted gps_minus_beidou builtin utc) result beidou.new }
 {
-    let count = CountAnswer::Count(utc);
+    let count = Ok(utc);
     let answer = shifted::shifted_from_utc(count, Beidou::BEHIND_GPS_NS);
     give::count(answer, beidou)
 }
@@ -55,7 +54,7 @@ pub extern "C" fn plaitgate_builtin_utc_to_beidou(utc: u64, beidou: &mut u64) ->
 pub extern "C" fn plaitgate_builtin_beidou_to_glonass(beidou: u64, glonass: &mut u64) -> u32
     ensures { Gives 0 (shifted_to_glonass gps_minus_beidou builtin beidou) result glonass.new }
 {
-    let utc = shifted::utc_from_shifted(CountAnswer::Count(beidou), Beidou::BEHIND_GPS_NS);
+    let utc = shifted::utc_from_shifted(Ok(beidou), Beidou::BEHIND_GPS_NS);
     give::count(steps::glonass_from_utc(utc), glonass)
 }
 
@@ -63,7 +62,7 @@ pub extern "C" fn plaitgate_builtin_beidou_to_glonass(beidou: u64, glonass: &mut
 pub extern "C" fn plaitgate_builtin_glonass_to_beidou(glonass: u64, beidou: &mut u64) -> u32
     ensures { Gives 0 (glonass_to_shifted gps_minus_beidou builtin glonass) result beidou.new }
 {
-    let count = CountAnswer::Count(glonass);
+    let count = Ok(glonass);
     let answer = shifted::shifted_from_glonass(count, Beidou::BEHIND_GPS_NS);
     give::count(answer, beidou)
 }
@@ -80,7 +79,7 @@ pub extern "C" fn plaitgate_table_beidou_to_utc(
         (λ es. shifted_to_utc gps_minus_beidou es beidou))) result
         (dated_as utc.new stale.new) }
 {
-    let count = CountAnswer::Count(beidou);
+    let count = Ok(beidou);
     let answer = table::utc_from_shifted(count, image, Beidou::BEHIND_GPS_NS);
     give::dated_count(answer, utc, stale)
 }
@@ -97,7 +96,7 @@ pub extern "C" fn plaitgate_table_utc_to_beidou(
         (λ es. utc_to_shifted gps_minus_beidou es utc))) result
         (dated_as beidou.new stale.new) }
 {
-    let count = CountAnswer::Count(utc);
+    let count = Ok(utc);
     let answer = table::shifted_from_utc(count, image, Beidou::BEHIND_GPS_NS);
     give::dated_count(answer, beidou, stale)
 }
@@ -114,7 +113,7 @@ pub extern "C" fn plaitgate_table_beidou_to_glonass(
         (λ es. shifted_to_glonass gps_minus_beidou es beidou))) result
         (dated_as glonass.new stale.new) }
 {
-    let count = CountAnswer::Count(beidou);
+    let count = Ok(beidou);
     let utc = table::utc_from_shifted(count, image, Beidou::BEHIND_GPS_NS);
     give::dated_count(dated::glonass_from_utc(utc), glonass, stale)
 }
@@ -131,7 +130,7 @@ pub extern "C" fn plaitgate_table_glonass_to_beidou(
         (λ es. glonass_to_shifted gps_minus_beidou es glonass))) result
         (dated_as beidou.new stale.new) }
 {
-    let utc = steps::utc_from_glonass(CountAnswer::Count(glonass));
+    let utc = steps::utc_from_glonass(Ok(glonass));
     let answer = table::shifted_from_utc(utc, image, Beidou::BEHIND_GPS_NS);
     give::dated_count(answer, beidou, stale)
 }

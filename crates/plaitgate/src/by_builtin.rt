@@ -11,7 +11,7 @@ use crate::give;
 use builtin::inner::by_utc::gps_from_utc;
 use builtin::inner::lookup::utc_from_gps;
 use conversions::inner::steps;
-use counts::{CountAnswer, unix};
+use counts::unix;
 use scales::tai::Tai;
 
 #[unsafe(no_mangle)]
@@ -26,35 +26,35 @@ pub extern "C" fn plaitgate_builtin_tai_minus_utc_at(tai: u64, offset: &mut i32)
 pub extern "C" fn plaitgate_glonass_to_utc(glonass: u64, utc: &mut u64) -> u32
     ensures { Gives 0 (up glonass_epoch glonass) result utc.new }
 {
-    give::count(steps::utc_from_glonass(CountAnswer::Count(glonass)), utc)
+    give::count(steps::utc_from_glonass(Ok(glonass)), utc)
 }
 
 #[unsafe(no_mangle)]
 pub extern "C" fn plaitgate_utc_to_glonass(utc: u64, glonass: &mut u64) -> u32
     ensures { Gives 0 (down glonass_epoch utc) result glonass.new }
 {
-    give::count(steps::glonass_from_utc(CountAnswer::Count(utc)), glonass)
+    give::count(steps::glonass_from_utc(Ok(utc)), glonass)
 }
 
 #[unsafe(no_mangle)]
 pub extern "C" fn plaitgate_builtin_gps_to_utc(gps: u64, utc: &mut u64) -> u32
     ensures { Gives 0 (gps_to_utc builtin gps) result utc.new }
 {
-    give::count(utc_from_gps(CountAnswer::Count(gps)), utc)
+    give::count(utc_from_gps(Ok(gps)), utc)
 }
 
 #[unsafe(no_mangle)]
 pub extern "C" fn plaitgate_builtin_utc_to_gps(utc: u64, gps: &mut u64) -> u32
     ensures { Gives 0 (utc_to_gps builtin utc) result gps.new }
 {
-    give::count(gps_from_utc(CountAnswer::Count(utc)), gps)
+    give::count(gps_from_utc(Ok(utc)), gps)
 }
 
 #[unsafe(no_mangle)]
 pub extern "C" fn plaitgate_builtin_glonass_to_gps(glonass: u64, gps: &mut u64) -> u32
     ensures { Gives 0 (glonass_to_gps builtin glonass) result gps.new }
 {
-    let utc = steps::utc_from_glonass(CountAnswer::Count(glonass));
+    let utc = steps::utc_from_glonass(Ok(glonass));
     give::count(gps_from_utc(utc), gps)
 }
 
@@ -62,7 +62,7 @@ pub extern "C" fn plaitgate_builtin_glonass_to_gps(glonass: u64, gps: &mut u64) 
 pub extern "C" fn plaitgate_builtin_gps_to_glonass(gps: u64, glonass: &mut u64) -> u32
     ensures { Gives 0 (gps_to_glonass builtin gps) result glonass.new }
 {
-    let utc = utc_from_gps(CountAnswer::Count(gps));
+    let utc = utc_from_gps(Ok(gps));
     give::count(steps::glonass_from_utc(utc), glonass)
 }
 
@@ -77,6 +77,6 @@ pub extern "C" fn plaitgate_builtin_gps_from_unix_seconds(seconds: i64, gps: &mu
 pub extern "C" fn plaitgate_builtin_gps_as_unix_seconds(gps: u64, seconds: &mut i64) -> u32
     ensures { Gives (pos 0) (gps_to_unix builtin gps) result seconds.new }
 {
-    let utc = utc_from_gps(CountAnswer::Count(gps));
+    let utc = utc_from_gps(Ok(gps));
     give::unix(steps::unix_from_utc(utc), seconds)
 }

@@ -10,7 +10,7 @@ ghost use Rattle.plaitgate.specs.Tables.{dated_as, with_stale};
 
 use crate::give;
 use conversions::inner::{dated, steps};
-use counts::{CountAnswer, unix};
+use counts::unix;
 use images::table;
 
 #[unsafe(no_mangle)]
@@ -25,7 +25,7 @@ pub extern "C" fn plaitgate_table_gps_to_utc(
         (dated_as utc.new stale.new) }
 {
     give::dated_count(
-        table::utc_from_gps(CountAnswer::Count(gps), image),
+        table::utc_from_gps(Ok(gps), image),
         utc,
         stale,
     )
@@ -43,7 +43,7 @@ pub extern "C" fn plaitgate_table_utc_to_gps(
         (dated_as gps.new stale.new) }
 {
     give::dated_count(
-        table::gps_from_utc(CountAnswer::Count(utc), image),
+        table::gps_from_utc(Ok(utc), image),
         gps,
         stale,
     )
@@ -61,7 +61,7 @@ pub extern "C" fn plaitgate_table_glonass_to_gps(
         (λ es. glonass_to_gps es glonass))) result
         (dated_as gps.new stale.new) }
 {
-    let utc = steps::utc_from_glonass(CountAnswer::Count(glonass));
+    let utc = steps::utc_from_glonass(Ok(glonass));
     give::dated_count(table::gps_from_utc(utc, image), gps, stale)
 }
 
@@ -76,7 +76,7 @@ pub extern "C" fn plaitgate_table_gps_to_glonass(
         (with_stale (dated_by_image image.now (λ es. gps + tai_minus_gps) (λ es. gps_to_glonass es gps))) result
         (dated_as glonass.new stale.new) }
 {
-    let utc = table::utc_from_gps(CountAnswer::Count(gps), image);
+    let utc = table::utc_from_gps(Ok(gps), image);
     give::dated_count(dated::glonass_from_utc(utc), glonass, stale)
 }
 
@@ -107,6 +107,6 @@ pub extern "C" fn plaitgate_table_gps_as_unix_seconds(
         (with_stale (dated_by_image image.now (λ es. gps + tai_minus_gps) (λ es. gps_to_unix es gps))) result
         (dated_as seconds.new stale.new) }
 {
-    let utc = table::utc_from_gps(CountAnswer::Count(gps), image);
+    let utc = table::utc_from_gps(Ok(gps), image);
     give::dated_unix(dated::unix_from_utc(utc), seconds, stale)
 }

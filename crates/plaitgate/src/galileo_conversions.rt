@@ -14,7 +14,6 @@ ghost use Rattle.plaitgate.specs.Tables.{dated_as, with_stale};
 use crate::give;
 use builtin::inner::shifted;
 use conversions::inner::{dated, steps};
-use counts::CountAnswer;
 use images::table;
 use scales::galileo::Galileo;
 use scales::gps::Gps;
@@ -37,7 +36,7 @@ pub extern "C" fn plaitgate_gps_to_galileo(gps: u64, galileo: &mut u64) -> u32
 pub extern "C" fn plaitgate_builtin_galileo_to_utc(galileo: u64, utc: &mut u64) -> u32
     ensures { Gives 0 (shifted_to_utc gps_minus_galileo builtin galileo) result utc.new }
 {
-    let count = CountAnswer::Count(galileo);
+    let count = Ok(galileo);
     let answer = shifted::utc_from_shifted(count, Galileo::BEHIND_GPS_NS);
     give::count(answer, utc)
 }
@@ -46,7 +45,7 @@ pub extern "C" fn plaitgate_builtin_galileo_to_utc(galileo: u64, utc: &mut u64) 
 pub extern "C" fn plaitgate_builtin_utc_to_galileo(utc: u64, galileo: &mut u64) -> u32
     ensures { Gives 0 (utc_to_shifted gps_minus_galileo builtin utc) result galileo.new }
 {
-    let count = CountAnswer::Count(utc);
+    let count = Ok(utc);
     let answer = shifted::shifted_from_utc(count, Galileo::BEHIND_GPS_NS);
     give::count(answer, galileo)
 }
@@ -55,7 +54,7 @@ pub extern "C" fn plaitgate_builtin_utc_to_galileo(utc: u64, galileo: &mut u64) 
 pub extern "C" fn plaitgate_builtin_galileo_to_glonass(galileo: u64, glonass: &mut u64) -> u32
     ensures { Gives 0 (shifted_to_glonass gps_minus_galileo builtin galileo) result glonass.new }
 {
-    let utc = shifted::utc_from_shifted(CountAnswer::Count(galileo), Galileo::BEHIND_GPS_NS);
+    let utc = shifted::utc_from_shifted(Ok(galileo), Galileo::BEHIND_GPS_NS);
     give::count(steps::glonass_from_utc(utc), glonass)
 }
 
@@ -63,7 +62,7 @@ pub extern "C" fn plaitgate_builtin_galileo_to_glonass(galileo: u64, glonass: &m
 pub extern "C" fn plaitgate_builtin_glonass_to_galileo(glonass: u64, galileo: &mut u64) -> u32
     ensures { Gives 0 (glonass_to_shifted gps_minus_galileo builtin glonass) result galileo.new }
 {
-    let count = CountAnswer::Count(glonass);
+    let count = Ok(glonass);
     let answer = shifted::shifted_from_glonass(count, Galileo::BEHIND_GPS_NS);
     give::count(answer, galileo)
 }
@@ -80,7 +79,7 @@ pub extern "C" fn plaitgate_table_galileo_to_utc(
         (λ es. shifted_to_utc gps_minus_galileo es galileo))) result
         (dated_as utc.new stale.new) }
 {
-    let count = CountAnswer::Count(galileo);
+    let count = Ok(galileo);
     let answer = table::utc_from_shifted(count, image, Galileo::BEHIND_GPS_NS);
     give::dated_count(answer, utc, stale)
 }
@@ -97,7 +96,7 @@ pub extern "C" fn plaitgate_table_utc_to_galileo(
         (λ es. utc_to_shifted gps_minus_galileo es utc))) result
         (dated_as galileo.new stale.new) }
 {
-    let count = CountAnswer::Count(utc);
+    let count = Ok(utc);
     let answer = table::shifted_from_utc(count, image, Galileo::BEHIND_GPS_NS);
     give::dated_count(answer, galileo, stale)
 }
@@ -114,7 +113,7 @@ pub extern "C" fn plaitgate_table_galileo_to_glonass(
         (λ es. shifted_to_glonass gps_minus_galileo es galileo))) result
         (dated_as glonass.new stale.new) }
 {
-    let count = CountAnswer::Count(galileo);
+    let count = Ok(galileo);
     let utc = table::utc_from_shifted(count, image, Galileo::BEHIND_GPS_NS);
     give::dated_count(dated::glonass_from_utc(utc), glonass, stale)
 }
@@ -131,7 +130,7 @@ pub extern "C" fn plaitgate_table_glonass_to_galileo(
         (λ es. glonass_to_shifted gps_minus_galileo es glonass))) result
         (dated_as galileo.new stale.new) }
 {
-    let utc = steps::utc_from_glonass(CountAnswer::Count(glonass));
+    let utc = steps::utc_from_glonass(Ok(glonass));
     let answer = table::shifted_from_utc(utc, image, Galileo::BEHIND_GPS_NS);
     give::dated_count(answer, galileo, stale)
 }

@@ -4,28 +4,19 @@ pub mod of_readings;
 mod scale_counts;
 
 ghost use Rattle.std.specs.Prelude.{◌≡◌, pos};
-ghost use Rattle.refusals.specs.Outcome.{Gives, changed};
-ghost use Rattle.counts.specs.Answers.{count_in, duration_in, parts_in};
+ghost use Rattle.refusals.specs.Outcome.{Gives, changed, outcome_in};
+ghost use Rattle.counts.specs.Answers.{duration_in};
 ghost use Rattle.counts.specs.Units.{parts_of};
-ghost use Rattle.calendar.specs.Answers.{span_in};
 ghost use Rattle.civil.specs.Fields.{fields};
-ghost use Rattle.conversions.specs.Answers.{unix_in, dated_in, dated_unix_in};
-ghost use Rattle.tables.specs.Answers.{taken_in, length_in, empty_in, entry_in, update_in, offset_in, dated_offset_in};
+ghost use Rattle.tables.specs.Answers.{taken_in, entry_in, update_in, dated_in};
 ghost use Rattle.tables.specs.Entries.{entry, threshold};
-ghost use Rattle.builtin.specs.Events.{event_in};
 ghost use Rattle.plaitgate.specs.Tables.{bit, dated_as, with_stale, found_as, found_entry, found_count};
 ghost use Rattle.std.proofs.Math.Option.{none};
 
-use builtin::events::EventAnswer;
-use calendar::SpanAnswer;
 use civil::CivilDateTime;
-use conversions::inner::dated::DatedCount;
-use conversions::{DatedUnix, UnixAnswer};
-use counts::units::PartsAnswer;
-use counts::{CountAnswer, DurationAnswer};
-use tables::{
-    DatedOffset, EmptyAnswer, EntryAnswer, LengthAnswer, OffsetAnswer, Taken, UpdateAnswer,
-};
+use conversions::inner::dated::Dated;
+use conversions::Dated;
+use tables::Dated;
 
 // every scale, by tools/write-scales
 pub use scale_counts::{
@@ -33,33 +24,33 @@ pub use scale_counts::{
 };
 // end of every scale
 
-pub fn duration(answer: DurationAnswer, out: &mut i64) -> u32
+pub fn duration(answer: Result<Duration, Refusal>, out: &mut i64) -> u32
     ensures { Gives (pos 0) (duration_in answer) result out.new }
 {
     match answer {
-        DurationAnswer::Lasts(d) => {
+        Ok(d) => {
             let nanos = d.0;
             *out = nanos;
             0
         }
-        DurationAnswer::Refused(r) => {
+        Err(r) => {
             *out = 0;
             r.number()
         }
     }
 }
 
-pub fn parts(answer: PartsAnswer, seconds: &mut u64, nanos: &mut u32) -> u32
-    ensures { Gives (parts_of 0) (parts_in answer) result
+pub fn parts(answer: Result<DurationParts, Refusal>, seconds: &mut u64, nanos: &mut u32) -> u32
+    ensures { Gives (parts_of 0) (outcome_in answer) result
         (record { seconds = seconds.new; nanos = nanos.new }) }
 {
     match answer {
-        PartsAnswer::Parts(p) => {
+        Ok(p) => {
             *seconds = p.seconds;
             *nanos = p.nanos;
             0
         }
-        PartsAnswer::Refused(r) => {
+        Err(r) => {
             *seconds = 0;
             *nanos = 0;
             r.number()
@@ -67,45 +58,45 @@ pub fn parts(answer: PartsAnswer, seconds: &mut u64, nanos: &mut u32) -> u32
     }
 }
 
-pub fn count(answer: CountAnswer, out: &mut u64) -> u32
-    ensures { Gives 0 (count_in answer) result out.new }
+pub fn count(answer: Result<u64, Refusal>, out: &mut u64) -> u32
+    ensures { Gives 0 (outcome_in answer) result out.new }
 {
     match answer {
-        CountAnswer::Count(n) => {
+        Ok(n) => {
             *out = n;
             0
         }
-        CountAnswer::Refused(r) => {
+        Err(r) => {
             *out = 0;
             r.number()
         }
     }
 }
 
-pub fn span(answer: SpanAnswer, out: &mut i64) -> u32
-    ensures { Gives (pos 0) (span_in answer) result out.new }
+pub fn span(answer: Result<i64, Refusal>, out: &mut i64) -> u32
+    ensures { Gives (pos 0) (outcome_in answer) result out.new }
 {
     match answer {
-        SpanAnswer::Span(n) => {
+        Ok(n) => {
             *out = n;
             0
         }
-        SpanAnswer::Refused(r) => {
+        Err(r) => {
             *out = 0;
             r.number()
         }
     }
 }
 
-pub fn unix(answer: UnixAnswer, out: &mut i64) -> u32
-    ensures { Gives (pos 0) (unix_in answer) result out.new }
+pub fn unix(answer: Result<i64, Refusal>, out: &mut i64) -> u32
+    ensures { Gives (pos 0) (outcome_in answer) result out.new }
 {
     match answer {
-        UnixAnswer::Seconds(n) => {
+        Ok(n) => {
             *out = n;
             0
         }
-        UnixAnswer::Refused(r) => {
+        Err(r) => {
             *out = 0;
             r.number()
         }
@@ -119,17 +110,17 @@ fn byte(yes: bool) -> u8
 }
 
 // By a table: the last byte is 1 where the table is stale.
-pub fn dated_count(found: DatedCount, out: &mut u64, stale: &mut u8) -> u32
+pub fn dated_count(found: Dated<u64>, out: &mut u64, stale: &mut u8) -> u32
     ensures { Gives (dated_as 0 0) (with_stale (dated_in found)) result (dated_as out.new stale.new) }
 {
     let answer = found.answer;
     match answer {
-        CountAnswer::Count(n) => {
+        Ok(n) => {
             *out = n;
             *stale = byte(found.stale);
             0
         }
-        CountAnswer::Refused(r) => {
+        Err(r) => {
             *out = 0;
             *stale = 0;
             r.number()
@@ -137,17 +128,17 @@ pub fn dated_count(found: DatedCount, out: &mut u64, stale: &mut u8) -> u32
     }
 }
 
-pub fn dated_unix(found: DatedUnix, out: &mut i64, stale: &mut u8) -> u32
-    ensures { Gives (dated_as (pos 0) 0) (with_stale (dated_unix_in found)) result (dated_as out.new stale.new) }
+pub fn dated_unix(found: Dated<i64>, out: &mut i64, stale: &mut u8) -> u32
+    ensures { Gives (dated_as (pos 0) 0) (with_stale (dated_in found)) result (dated_as out.new stale.new) }
 {
     let answer = found.answer;
     match answer {
-        UnixAnswer::Seconds(n) => {
+        Ok(n) => {
             *out = n;
             *stale = byte(found.stale);
             0
         }
-        UnixAnswer::Refused(r) => {
+        Err(r) => {
             *out = 0;
             *stale = 0;
             r.number()
@@ -155,17 +146,17 @@ pub fn dated_unix(found: DatedUnix, out: &mut i64, stale: &mut u8) -> u32
     }
 }
 
-pub fn dated_offset(found: DatedOffset, out: &mut i32, stale: &mut u8) -> u32
-    ensures { Gives (dated_as (pos 0) 0) (with_stale (dated_offset_in found)) result (dated_as out.new stale.new) }
+pub fn dated_offset(found: Dated<i32>, out: &mut i32, stale: &mut u8) -> u32
+    ensures { Gives (dated_as (pos 0) 0) (with_stale (dated_in found)) result (dated_as out.new stale.new) }
 {
     let answer = found.answer;
     match answer {
-        OffsetAnswer::Offset(n) => {
+        Ok(n) => {
             *out = n;
             *stale = byte(found.stale);
             0
         }
-        OffsetAnswer::Refused(r) => {
+        Err(r) => {
             *out = 0;
             *stale = 0;
             r.number()
@@ -196,39 +187,39 @@ pub fn civil(
     *nanos = c.nanos;
 }
 
-pub fn taken(answer: Taken) -> u32
+pub fn taken(answer: Result<(), Refusal>) -> u32
     ensures { result ≡ taken_in answer }
 {
     match answer {
-        Taken::Done => 0,
-        Taken::Refused(r) => r.number(),
+        Ok(()) => 0,
+        Err(r) => r.number(),
     }
 }
 
-pub fn length(answer: LengthAnswer, out: &mut u64) -> u32
-    ensures { Gives 0 (length_in answer) result out.new }
+pub fn length(answer: Result<usize, Refusal>, out: &mut u64) -> u32
+    ensures { Gives 0 (outcome_in answer) result out.new }
 {
     match answer {
-        LengthAnswer::Length(n) => {
+        Ok(n) => {
             *out = n as u64;
             0
         }
-        LengthAnswer::Refused(r) => {
+        Err(r) => {
             *out = 0;
             r.number()
         }
     }
 }
 
-pub fn emptiness(answer: EmptyAnswer, out: &mut u8) -> u32
-    ensures { Gives 0 (changed bit (empty_in answer)) result out.new }
+pub fn emptiness(answer: Result<bool, Refusal>, out: &mut u8) -> u32
+    ensures { Gives 0 (changed bit (outcome_in answer)) result out.new }
 {
     match answer {
-        EmptyAnswer::Empty(yes) => {
+        Ok(yes) => {
             *out = byte(yes);
             0
         }
-        EmptyAnswer::Refused(r) => {
+        Err(r) => {
             *out = 0;
             r.number()
         }
@@ -236,7 +227,7 @@ pub fn emptiness(answer: EmptyAnswer, out: &mut u8) -> u32
 }
 
 pub fn entry(
-    answer: EntryAnswer,
+    answer: Result<Option<LeapEntry>, Refusal>,
     found: &mut u8,
     tai_nanos: &mut u64,
     tai_minus_utc: &mut i32,
@@ -245,20 +236,20 @@ pub fn entry(
         (found_as found.new (entry tai_nanos.new tai_minus_utc.new)) }
 {
     match answer {
-        EntryAnswer::Entry(e) => {
+        Ok(Some(e)) => {
             let offset = e.tai_minus_utc;
             *found = 1;
             *tai_nanos = e.tai_nanos;
             *tai_minus_utc = offset;
             0
         }
-        EntryAnswer::Nothing => {
+        Ok(None) => {
             *found = 0;
             *tai_nanos = 0;
             *tai_minus_utc = 0;
             0
         }
-        EntryAnswer::Refused(r) => {
+        Err(r) => {
             *found = 0;
             *tai_nanos = 0;
             *tai_minus_utc = 0;
@@ -267,22 +258,22 @@ pub fn entry(
     }
 }
 
-pub fn update(answer: UpdateAnswer, found: &mut u8, tai: &mut u64) -> u32
+pub fn update(answer: Result<Option<Tai>, Refusal>, found: &mut u8, tai: &mut u64) -> u32
     ensures { Gives (found_count none) (changed found_count (update_in answer)) result
         (found_as found.new tai.new) }
 {
     match answer {
-        UpdateAnswer::At(t) => {
+        Ok(Some(t)) => {
             *found = 1;
             *tai = t.0;
             0
         }
-        UpdateAnswer::Nothing => {
+        Ok(None) => {
             *found = 0;
             *tai = 0;
             0
         }
-        UpdateAnswer::Refused(r) => {
+        Err(r) => {
             *found = 0;
             *tai = 0;
             r.number()
@@ -290,15 +281,15 @@ pub fn update(answer: UpdateAnswer, found: &mut u8, tai: &mut u64) -> u32
     }
 }
 
-pub fn offset(answer: OffsetAnswer, out: &mut i32) -> u32
-    ensures { Gives (pos 0) (offset_in answer) result out.new }
+pub fn offset(answer: Result<i32, Refusal>, out: &mut i32) -> u32
+    ensures { Gives (pos 0) (outcome_in answer) result out.new }
 {
     match answer {
-        OffsetAnswer::Offset(n) => {
+        Ok(n) => {
             *out = n;
             0
         }
-        OffsetAnswer::Refused(r) => {
+        Err(r) => {
             *out = 0;
             r.number()
         }
@@ -306,15 +297,15 @@ pub fn offset(answer: OffsetAnswer, out: &mut i32) -> u32
 }
 
 // The threshold of an event's entry, whose offset the host has.
-pub fn threshold(answer: EventAnswer, out: &mut u64) -> u32
-    ensures { Gives 0 (changed threshold (event_in answer)) result out.new }
+pub fn threshold(answer: Result<LeapEntry, Refusal>, out: &mut u64) -> u32
+    ensures { Gives 0 (changed threshold (outcome_in answer)) result out.new }
 {
     match answer {
-        EventAnswer::Entry(e) => {
+        Ok(e) => {
             *out = e.tai_nanos;
             0
         }
-        EventAnswer::Refused(r) => {
+        Err(r) => {
             *out = 0;
             r.number()
         }

@@ -15,7 +15,7 @@ ghost use Rattle.plaitgate.specs.Tables.{alike_as, in_numbers};
 use crate::give;
 use crate::give::of_alike;
 use scales::tai::Tai;
-use tables::{LeapTable, Taken};
+use tables::LeapTable;
 
 #[unsafe(no_mangle)]
 pub extern "C" fn plaitgate_table_new(image: &mut [u8]) -> u32
@@ -40,7 +40,7 @@ pub extern "C" fn plaitgate_table_from_entries(entries: &[u8], image: &mut [u8])
     let answer = built.answer;
     let table = built.table;
     let written = images::table::write(table, image);
-    if let Taken::Refused(why) = written {
+    if let Err(why) = written {
         return why.number();
     }
     give::taken(answer)

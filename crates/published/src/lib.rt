@@ -8,7 +8,7 @@ ghost use Rattle.published.specs.LeapSecondsList.{list_read};
 ghost use Rattle.published.specs.Places.{reading_in};
 
 use refusals::Refusal;
-use tables::{LeapTable, Taken};
+use tables::LeapTable;
 
 // The longest file that is read.
 pub const MOST_BYTES: usize = 65_536;
@@ -17,7 +17,7 @@ pub const MOST_BYTES: usize = 65_536;
 // before the table's first entry; and the table. On a refusal none is dropped, and the table has no entry.
 #[derive(Clone, Copy)]
 pub struct ListAnswer {
-    pub answer: Taken,
+    pub answer: Result<(), Refusal>,
     pub line: usize,
     pub dropped: usize,
     pub table: LeapTable,

@@ -1,12 +1,11 @@
 -- Of the calls between GPS and UTC by a table: what a run of accepted entries leaves as it was, and what a call says of two
 -- tables. It holds of whatever the contracts allow the calls to answer.
 use Rattle.std.specs.Prelude.{◌≡◌, List, ◌∷◌, ℕ, ◌^◌, ◌≤◌, ◌<◌, length, pos}
-use Rattle.refusals.specs.Outcome.{Outcome, answered, unless}
+use Rattle.refusals.specs.Outcome.{Outcome, answered, unless, outcome_in}
 use Rattle.tables.specs.Entries.{Entry}
 use Rattle.tables.specs.Slots.{table_of, extension_refusal, extended}
 use Rattle.tables.specs.declared.LeapTable.{LeapTable}
 use Rattle.images.specs.Image.{image_bytes, table_in}
-use Rattle.alike.specs.Answers.{alike_in}
 use Rattle.alike.specs.declared.Alike.{Alike}
 use Rattle.alike.specs.declared.Alike.TheVariants as how
 use Rattle.alike.proofs.by_value.alike.Reads as alike_by_value
@@ -56,11 +55,11 @@ Holds how.Irregular there there' back back' = Unit {0}
 pub record AlikeOfCalls : Type 0 where
   -- `alike::by_value::alike`
   pub by_value : (t t' : LeapTable) (x : Alike)
-      → Allows alike_by_value.Post (λ κ a. (a.0 ≡ t) × (a.1.0 ≡ t')) (λ κ r e. alike_in r) (answered x)
+      → Allows alike_by_value.Post (λ κ a. (a.0 ≡ t) × (a.1.0 ≡ t')) (λ κ r e. outcome_in r) (answered x)
       → OfAnswers (ToUtcByValue t) (ToUtcByValue t') (ToGpsByValue t) (ToGpsByValue t') (Holds x)
   -- `alike::by_image::alike`
   pub in_place : (b b' : List ℕ) (x : Alike)
-      → Allows alike_by_image.Post (λ κ a. (a.0.now ≡ b) × (a.1.0.now ≡ b')) (λ κ r e. alike_in r) (answered x)
+      → Allows alike_by_image.Post (λ κ a. (a.0.now ≡ b) × (a.1.0.now ≡ b')) (λ κ r e. outcome_in r) (answered x)
       → OfAnswers (ToUtcInPlace b) (ToUtcInPlace b') (ToGpsInPlace b) (ToGpsInPlace b') (Holds x)
   -- `plaitgate_table_alike`
   pub exported : (b b' : List ℕ) (x : Alike)

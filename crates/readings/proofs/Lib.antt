@@ -9,5 +9,4 @@ pub mod Walked
 pub mod DatesRise
 pub mod Order
 pub mod Answered
-pub mod Tells
 pub mod Calls

@@ -1,6 +1,6 @@
 -- The reading of a GPS count by what a lookup at its TAI reading tells. Only contracts of functions in `inner` cite
 -- these definitions; proofs/ByLookup.antt says that they give the readings.
-use Rattle.std.specs.Prelude.{Bool, false, cond, ◌&&◌, ℕ, ◌+◌, ◌-◌, eqb, leb}
+use Rattle.std.specs.Prelude.{Bool, false, cond, ◌&&◌, ℕ, ◌+◌, ◌-◌, eqb, leb, None, Option, Some}
 use Rattle.refusals.specs.Outcome.{Outcome, answered, refused, value_in, then}
 use Rattle.counts.specs.Exact.{up}
 use Rattle.counts.specs.Units.{second}
@@ -8,14 +8,12 @@ use Rattle.scales.specs.Scales.{tai_minus_gps}
 use Rattle.civil.specs.Fields.{fields, fields_of}
 use Rattle.civil.specs.declared.CivilDateTime.{CivilDateTime}
 use Rattle.tables.specs.declared.Lookup.{Lookup}
-use Rattle.tables.specs.declared.Threshold.{Threshold}
-use Rattle.tables.specs.declared.Threshold.TheVariants as next
 use Rattle.readings.specs.Readings.{same_fields}
 
 -- a threshold, which is above the TAI reading t, is at most a second above it
-abbrev pub near_before : Threshold → ℕ → Bool
-near_before (next.At x) t = leb x (t + second)
-near_before next.Nothing t = false
+abbrev pub near_before : Option ℕ → ℕ → Bool
+near_before (Some x) t = leb x (t + second)
+near_before None t = false
 
 -- the fields of the second before a UTC count, with 60 in place of 59
 abbrev pub sixty : ℕ → CivilDateTime

@@ -1,4 +1,3 @@
 pub mod Readings
 pub mod ByLookup
 pub mod Order
-pub mod Answers

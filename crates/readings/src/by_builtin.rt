@@ -1,40 +1,37 @@
 // Civil readings by the built-in table. It is proved to be on days, so no table is tested.
 ghost use Rattle.std.specs.Prelude.{◌≡◌};
-ghost use Rattle.counts.specs.Answers.{count_in};
+ghost use Rattle.refusals.specs.Outcome.{outcome_in};
 ghost use Rattle.scales.specs.Answers.{gps_in};
 ghost use Rattle.builtin.specs.Builtin.{builtin};
 ghost use Rattle.readings.specs.Readings.{gps_to_civil, count_of_fields, civil_to_gps};
-ghost use Rattle.readings.specs.Answers.{reading_in};
 
-use crate::ReadingAnswer;
 use crate::inner::{INSERTED, back, read};
 use builtin::inner::by_utc::gps_from_utc;
 use builtin::inner::lookup::{entry_told, event_at};
-use civil::{CivilDateTime, FieldCheck};
+use civil::CivilDateTime;
 use conversions::inner::{reading_of, steps, tai_of};
-use counts::CountAnswer;
 use counts::units::NANOS_PER_SECOND;
-use scales::gps::{Gps, GpsAnswer};
+use scales::gps::Gps;
 
-pub fn gps_to_civil(gps: Gps) -> ReadingAnswer
-    ensures { reading_in result ≡ gps_to_civil builtin gps.0 }
+pub fn gps_to_civil(gps: Gps) -> Result<CivilDateTime, Refusal>
+    ensures { outcome_in result ≡ gps_to_civil builtin gps.0 }
 {
-    let tai = tai_of(CountAnswer::Count(gps.0));
+    let tai = tai_of(Ok(gps.0));
     match tai {
-        CountAnswer::Count(reading) => read(entry_told(event_at(reading)), tai),
-        CountAnswer::Refused(why) => ReadingAnswer::Refused(why),
+        Ok(reading) => read(entry_told(event_at(reading)), tai),
+        Err(why) => Err(why),
     }
 }
 
 // The count of fields that exist. The later of the GPS counts that have a UTC count is a second before the first of those
 // that have the UTC count a second on, so one lookup finds it. Only second 60, and what has no such UTC count, take two.
-fn count_of(fields: CivilDateTime) -> CountAnswer
-    ensures { count_in result ≡ count_of_fields builtin fields }
+fn count_of(fields: CivilDateTime) -> Result<u64, Refusal>
+    ensures { outcome_in result ≡ count_of_fields builtin fields }
 {
     let utc = fields.to_utc_nanos();
     if fields.second != INSERTED {
         let next = steps::up(utc, NANOS_PER_SECOND);
-        if let CountAnswer::Count(_) = next {
+        if let Ok(_) = next {
             return steps::down(gps_from_utc(next), NANOS_PER_SECOND);
         }
     }
@@ -45,11 +42,11 @@ fn count_of(fields: CivilDateTime) -> CountAnswer
 
 // Refuses 15 to 19 and 11 for the first field that is out of range, then 14 where the second is 60 and no GPS count is
 // read so, then 1.
-pub fn civil_to_gps(fields: CivilDateTime) -> GpsAnswer
+pub fn civil_to_gps(fields: CivilDateTime) -> Result<Gps, Refusal>
     ensures { gps_in result ≡ civil_to_gps builtin fields }
 {
     match fields.check() {
-        FieldCheck::InRange => GpsAnswer::of(count_of(fields)),
-        FieldCheck::Refused(why) => GpsAnswer::Refused(why),
+        Ok(()) => GpsAnswer::of(count_of(fields)),
+        Err(why) => Err(why),
     }
 }

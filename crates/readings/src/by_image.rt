@@ -2,49 +2,46 @@
 // of its entries after the first begins a day. Each call refuses an invalid table with 8 before anything else, then one
 // that cannot be read by with 13, and tells whether the table is stale at the TAI reading of the GPS count.
 ghost use Rattle.std.specs.Prelude.{◌≡◌, ◌+◌};
+ghost use Rattle.tables.specs.Answers.{dated_in};
 ghost use Rattle.refusals.specs.Outcome.{value_in};
 ghost use Rattle.scales.specs.Scales.{tai_minus_gps};
-ghost use Rattle.conversions.specs.Answers.{dated_in};
 ghost use Rattle.images.specs.Image.{dated_by_image};
 ghost use Rattle.readings.specs.Readings.{gps_to_civil, civil_to_gps};
-ghost use Rattle.readings.specs.Answers.{dated_reading_in};
 
 use crate::inner::{back, date_reading, if_real, read};
-use crate::{DatedReading, ReadingAnswer};
+use crate::Dated;
 use civil::CivilDateTime;
-use conversions::inner::dated::{DatedCount, date};
+use conversions::inner::dated::{Dated, date};
 use conversions::inner::{first_reading_of, gps_from_lookup, last_reading_of, reading_of, tai_of};
-use counts::CountAnswer;
 use images::inner::lookup::{checked_look_up, is_on_days, look_up};
 use images::inner::slots::expiry;
 use refusals::Refusal;
 use scales::gps::Gps;
-use tables::LookupAnswer;
 use tables::inner::is_stale;
 
 // Refuses 8, 13, then as GPS to UTC does.
-pub fn gps_to_civil(gps: Gps, image: &[u8]) -> DatedReading
-    ensures { dated_reading_in result ≡
+pub fn gps_to_civil(gps: Gps, image: &[u8]) -> Dated<CivilDateTime>
+    ensures { dated_in result ≡
         dated_by_image image.now (λ es. gps.0 + tai_minus_gps) (λ es. gps_to_civil es gps.0) }
 {
-    let tai = tai_of(CountAnswer::Count(gps.0));
+    let tai = tai_of(Ok(gps.0));
     let reading = reading_of(tai);
     match checked_look_up(image, reading) {
-        LookupAnswer::Told(found) => {
+        Ok(found) => {
             if !is_on_days(image) {
-                return date_reading(ReadingAnswer::Refused(Refusal::NotOnDays), false);
+                return date_reading(Err(Refusal::NotOnDays), false);
             }
             let stale = is_stale(expiry(image), reading);
             date_reading(read(found, tai), stale)
         }
-        LookupAnswer::Refused(why) => date_reading(ReadingAnswer::Refused(why), false),
+        Err(why) => date_reading(Err(why), false),
     }
 }
 
 // Refuses 8, 13, then 15 to 19 and 11 for the first field that is out of range, then 14 where the second is 60 and no GPS
 // count is read so, then 1. Other fields go to the later of two GPS counts. The first of them is found as by
 // `images::table::gps_from_utc`.
-pub fn civil_to_gps(fields: CivilDateTime, image: &[u8]) -> DatedCount
+pub fn civil_to_gps(fields: CivilDateTime, image: &[u8]) -> Dated<u64>
     ensures { dated_in result ≡
         dated_by_image image.now (λ es. value_in 0 (civil_to_gps es fields) + tai_minus_gps)
         (λ es. civil_to_gps es fields) }
@@ -52,9 +49,9 @@ pub fn civil_to_gps(fields: CivilDateTime, image: &[u8]) -> DatedCount
     let utc = fields.to_utc_nanos();
     let a = first_reading_of(utc);
     match checked_look_up(image, a) {
-        LookupAnswer::Told(told) => {
+        Ok(told) => {
             if !is_on_days(image) {
-                return date(CountAnswer::Refused(Refusal::NotOnDays), false);
+                return date(Err(Refusal::NotOnDays), false);
             }
             let b = last_reading_of(utc, told, a);
             let first = gps_from_lookup(look_up(image, b), utc);
@@ -63,6 +60,6 @@ pub fn civil_to_gps(fields: CivilDateTime, image: &[u8]) -> DatedCount
             let stale = is_stale(expiry(image), reading_of(tai_of(gps)));
             date(gps, stale)
         }
-        LookupAnswer::Refused(why) => date(CountAnswer::Refused(why), false),
+        Err(why) => date(Err(why), false),
     }
 }

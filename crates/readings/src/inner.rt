@@ -1,33 +1,32 @@
 // What the stores share: a reading, and fields back to a count, by what a lookup tells.
 ghost use Rattle.std.specs.Prelude.{◌≡◌, ◌-◌};
-ghost use Rattle.refusals.specs.Outcome.{value_in, then, changed};
-ghost use Rattle.counts.specs.Answers.{count_in};
+ghost use Rattle.tables.specs.Answers.{dated_in};
+ghost use Rattle.refusals.specs.Outcome.{value_in, then, changed, outcome_in};
 ghost use Rattle.counts.specs.Units.{second};
 ghost use Rattle.civil.specs.Real.{of_real};
 ghost use Rattle.tables.specs.Expiry.{dated};
 ghost use Rattle.conversions.specs.ByLookup.{utc_from_lookup};
 ghost use Rattle.readings.specs.Readings.{same_fields};
 ghost use Rattle.readings.specs.ByLookup.{near_before, in_first_second, sixty, reading_from, later_from, read_so_from, back_from};
-ghost use Rattle.readings.specs.Answers.{reading_in, dated_reading_in};
 
-use crate::{DatedReading, ReadingAnswer};
-use civil::{CivilDateTime, FieldCheck};
+use crate::Dated;
+use civil::CivilDateTime;
 use conversions::inner::{reading_of, tai_of, utc_from_lookup};
 use counts::units::NANOS_PER_SECOND;
-use counts::{CountAnswer, sums};
+use counts::sums;
 use refusals::Refusal;
-use tables::{Lookup, LookupAnswer, Threshold};
+use tables::Lookup;
 
 // The second of an inserted second.
 pub const INSERTED: u8 = 60;
 
 // Whether the next threshold is at most a second after a TAI reading.
-fn near_before(next: Threshold, tai: u64) -> bool
+fn near_before(next: Option<u64>, tai: u64) -> bool
     ensures { result ≡ near_before next tai }
 {
     match next {
-        Threshold::At(threshold) => threshold <= tai || threshold - tai <= NANOS_PER_SECOND,
-        Threshold::Nothing => false,
+        Some(threshold) => threshold <= tai || threshold - tai <= NANOS_PER_SECOND,
+        None => false,
     }
 }
 
@@ -79,13 +78,13 @@ fn reading_from(found: Lookup, tai: u64, utc: u64) -> CivilDateTime
 }
 
 // The reading of a TAI reading, by what a lookup there tells.
-pub fn read(found: Lookup, tai: CountAnswer) -> ReadingAnswer
-    ensures { reading_in result ≡
-        changed (reading_from found (value_in 0 (count_in tai))) (utc_from_lookup (count_in tai) found) }
+pub fn read(found: Lookup, tai: Result<u64, Refusal>) -> Result<CivilDateTime, Refusal>
+    ensures { outcome_in result ≡
+        changed (reading_from found (value_in 0 (outcome_in tai))) (utc_from_lookup (outcome_in tai) found) }
 {
-    match utc_from_lookup(LookupAnswer::Told(found), tai) {
-        CountAnswer::Count(utc) => ReadingAnswer::Fields(reading_from(found, reading_of(tai), utc)),
-        CountAnswer::Refused(why) => ReadingAnswer::Refused(why),
+    match utc_from_lookup(Ok(found), tai) {
+        Ok(utc) => Ok(reading_from(found, reading_of(tai), utc)),
+        Err(why) => Err(why),
     }
 }
 
@@ -107,47 +106,47 @@ fn read_so(
     tai: u64,
     utc: u64,
     fields: CivilDateTime,
-    gps: CountAnswer,
-) -> CountAnswer
-    ensures { count_in result ≡ read_so_from found tai utc fields (count_in gps) }
+    gps: Result<u64, Refusal>,
+) -> Result<u64, Refusal>
+    ensures { outcome_in result ≡ read_so_from found tai utc fields (outcome_in gps) }
 {
     match gps {
-        CountAnswer::Count(count) => {
+        Ok(count) => {
             if same_fields(reading_from(found, tai, utc), fields) {
-                CountAnswer::Count(count)
+                Ok(count)
             } else {
-                CountAnswer::Refused(Refusal::NoInsertedSecond)
+                Err(Refusal::NoInsertedSecond)
             }
         }
-        CountAnswer::Refused(_) => CountAnswer::Refused(Refusal::NoInsertedSecond),
+        Err(_) => Err(Refusal::NoInsertedSecond),
     }
 }
 
 // A GPS count, or the one a second later where the next threshold is in between.
-fn later_from(found: Lookup, tai: u64, gps: CountAnswer) -> CountAnswer
-    ensures { count_in result ≡ then (count_in gps) (later_from found tai) }
+fn later_from(found: Lookup, tai: u64, gps: Result<u64, Refusal>) -> Result<u64, Refusal>
+    ensures { outcome_in result ≡ then (outcome_in gps) (later_from found tai) }
 {
     let next = found.next;
     match gps {
-        CountAnswer::Count(count) => {
+        Ok(count) => {
             if near_before(next, tai) {
                 sums::plus(count, NANOS_PER_SECOND)
             } else {
-                CountAnswer::Count(count)
+                Ok(count)
             }
         }
-        CountAnswer::Refused(why) => CountAnswer::Refused(why),
+        Err(why) => Err(why),
     }
 }
 
 // Fields that exist to GPS, by their UTC count, the first GPS count that has it, and what a lookup at its TAI reading tells.
 pub fn back(
     fields: CivilDateTime,
-    utc: CountAnswer,
-    first: CountAnswer,
+    utc: Result<u64, Refusal>,
+    first: Result<u64, Refusal>,
     found: Lookup,
-) -> CountAnswer
-    ensures { count_in result ≡ back_from fields (count_in utc) (count_in first) found }
+) -> Result<u64, Refusal>
+    ensures { outcome_in result ≡ back_from fields (outcome_in utc) (outcome_in first) found }
 {
     let tai = reading_of(tai_of(first));
     if fields.second == INSERTED {
@@ -158,26 +157,26 @@ pub fn back(
 }
 
 // An answer to fields that exist, and else the refusal of the first that is out of range.
-pub fn if_real(fields: CivilDateTime, answer: CountAnswer) -> CountAnswer
-    ensures { count_in result ≡ of_real fields (count_in answer) }
+pub fn if_real(fields: CivilDateTime, answer: Result<u64, Refusal>) -> Result<u64, Refusal>
+    ensures { outcome_in result ≡ of_real fields (outcome_in answer) }
 {
     match fields.check() {
-        FieldCheck::InRange => answer,
-        FieldCheck::Refused(why) => CountAnswer::Refused(why),
+        Ok(()) => answer,
+        Err(why) => Err(why),
     }
 }
 
 // A reading by a table that is stale or not. A refusal never is.
-pub fn date_reading(answer: ReadingAnswer, stale: bool) -> DatedReading
-    ensures { dated_reading_in result ≡ dated stale (reading_in answer) }
+pub fn date_reading(answer: Result<CivilDateTime, Refusal>, stale: bool) -> Dated<CivilDateTime>
+    ensures { dated_in result ≡ dated stale (outcome_in answer) }
 {
     match answer {
-        ReadingAnswer::Fields(fields) => DatedReading {
-            answer: ReadingAnswer::Fields(fields),
+        Ok(fields) => Dated {
+            answer: Ok(fields),
             stale,
         },
-        ReadingAnswer::Refused(why) => DatedReading {
-            answer: ReadingAnswer::Refused(why),
+        Err(why) => Dated {
+            answer: Err(why),
             stale: false,
         },
     }

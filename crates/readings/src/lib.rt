@@ -9,16 +9,4 @@ pub mod inner;
 use civil::CivilDateTime;
 use refusals::Refusal;
 
-// A date and a time of day, in which second 60 is an inserted second, or why there is none.
-#[derive(Clone, Copy)]
-pub enum ReadingAnswer {
-    Fields(CivilDateTime),
-    Refused(Refusal),
-}
 
-// A reading by a table, and whether the table is stale.
-#[derive(Clone, Copy)]
-pub struct DatedReading {
-    pub answer: ReadingAnswer,
-    pub stale: bool,
-}

@@ -15,7 +15,7 @@ use counts::units::{LARGEST_COUNT, NANOS_PER_SECOND};
 use refusals::Refusal;
 use seconds::{Seconds, less_offset, not_after};
 use tables::inner::{OFFSET_OF_NO_ENTRY, offset_step};
-use tables::{LeapTable, NO_EXPIRY, RUNTIME_CAPACITY, TableAnswer, Taken};
+use tables::{LeapTable, NO_EXPIRY, RUNTIME_CAPACITY, TableAnswer};
 
 // From a TAI second on, TAI is `offset` seconds ahead of UTC.
 #[derive(Clone, Copy)]
@@ -24,12 +24,6 @@ pub struct LeapRecord {
     pub offset: i32,
 }
 
-// The TAI second of a file's expiry.
-#[derive(Clone, Copy)]
-pub enum Expiry {
-    Nothing,
-    At(Seconds),
-}
 
 // What has been seen of the records so far.
 #[derive(Clone, Copy)]
@@ -41,7 +35,7 @@ pub struct Progress {
     // a kept threshold is above the counts
     pub above: bool,
     // the first refusal by order
-    pub why: Taken,
+    pub why: Result<(), Refusal>,
     // what the next record has to follow
     pub second: Seconds,
     pub offset: i32,
@@ -56,7 +50,7 @@ const LAST_SECOND: u64 = LARGEST_COUNT / NANOS_PER_SECOND;
 pub fn begin() -> Progress
     ensures { judged_in result ≡ begun }
 {
-    let none = Taken::Done;
+    let none = Ok(());
     Progress {
         some: false,
         count: 0,
@@ -72,15 +66,15 @@ pub fn begin() -> Progress
 }
 
 // The first refusal by order: one that was there, or that of a second and an offset by those before them.
-fn judge(why: Taken, before: Seconds, offset: i32, next: Seconds, given: i32) -> Taken
+fn judge(why: Result<(), Refusal>, before: Seconds, offset: i32, next: Seconds, given: i32) -> Result<(), Refusal>
     ensures { taken_in result ≡
         or_else (taken_in why) (follow_refusal (seconds_in before) offset (seconds_in next) given) }
 {
-    if let Taken::Refused(first) = why {
-        return Taken::Refused(first);
+    if let Err(first) = why {
+        return Err(first);
     }
     if not_after(next, before) {
-        return Taken::Refused(Refusal::NotStrictlyAscending);
+        return Err(Refusal::NotStrictlyAscending);
     }
     offset_step(offset, given)
 }
@@ -106,7 +100,7 @@ fn nanos_of(second: Seconds) -> u64
 }
 
 // The same for a record up to the first with offset 19: the first record of all follows none.
-fn judge_event(seen: Progress, event: Seconds, given: i32) -> Taken
+fn judge_event(seen: Progress, event: Seconds, given: i32) -> Result<(), Refusal>
     ensures { taken_in result ≡ or_else (taken_in seen.why)
         (cond seen.some (follow_refusal (seconds_in seen.second) seen.offset (seconds_in event) given) 0) }
 {
@@ -216,12 +210,12 @@ pub fn take(
 }
 
 // Whether an expiry is below 0 or above the counts.
-fn is_no_count(expiry: Expiry) -> bool
+fn is_no_count(expiry: Option<Seconds>) -> bool
     ensures { result ≡ no_count (expiry_second_in expiry) }
 {
     match expiry {
-        Expiry::Nothing => false,
-        Expiry::At(second) => {
+        None => false,
+        Some(second) => {
             if second.below {
                 return second.size != 0;
             }
@@ -231,30 +225,30 @@ fn is_no_count(expiry: Expiry) -> bool
 }
 
 // The expiry of a table; 0 where it is no count.
-fn expiry_nanos(expiry: Expiry) -> u64
+fn expiry_nanos(expiry: Option<Seconds>) -> u64
     ensures { result ≡ cond (no_count (expiry_second_in expiry)) 0 (expiry_of (expiry_second_in expiry)) }
 {
     match expiry {
-        Expiry::Nothing => NO_EXPIRY,
-        Expiry::At(second) => nanos_of(second),
+        None => NO_EXPIRY,
+        Some(second) => nanos_of(second),
     }
 }
 
 // Why the records seen make no table with this expiry; `none` where none has offset 19.
-fn verdict(seen: Progress, none: Refusal, expiry: Expiry) -> Taken
+fn verdict(seen: Progress, none: Refusal, expiry: Option<Seconds>) -> Result<(), Refusal>
     ensures { taken_in result ≡ verdict_of (number_of none) (expiry_second_in expiry) (judged_in seen) }
 {
     if !seen.some {
-        return Taken::Refused(Refusal::EmptyTable);
+        return Err(Refusal::EmptyTable);
     }
     if seen.count == 0 {
-        return Taken::Refused(none);
+        return Err(none);
     }
     if seen.above | is_no_count(expiry) {
-        return Taken::Refused(Refusal::Overflow);
+        return Err(Refusal::Overflow);
     }
     if RUNTIME_CAPACITY < seen.count {
-        return Taken::Refused(Refusal::BufferFull);
+        return Err(Refusal::BufferFull);
     }
     seen.why
 }
@@ -265,20 +259,20 @@ pub fn finish(
     offsets: [i32; 64],
     seen: Progress,
     none: Refusal,
-    expiry: Expiry,
+    expiry: Option<Seconds>,
 ) -> TableAnswer
     ensures { (rs : List Record) → Holds rs thresholds offsets seen
         → table_answer_in result ≡ table_from (number_of none) (expiry_second_in expiry) rs }
 {
     let answer = verdict(seen, none, expiry);
-    if let Taken::Refused(why) = answer {
-        let refused = Taken::Refused(why);
+    if let Err(why) = answer {
+        let refused = Err(why);
         return TableAnswer {
             answer: refused,
             table: LeapTable::new(),
         };
     }
-    let done = Taken::Done;
+    let done = Ok(());
     TableAnswer {
         answer: done,
         table: LeapTable {

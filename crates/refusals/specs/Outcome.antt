@@ -1,9 +1,16 @@
 -- What a call gives, in plain values: its answer, or the number of its refusal.
-use Rattle.std.specs.Prelude.{◌≡◌, cond, ℕ, eqb}
+use Rattle.std.specs.Prelude.{◌≡◌, cond, ℕ, eqb, Result, Ok, Err}
+use Rattle.refusals.specs.Number.{number_of}
+use Rattle.refusals.specs.declared.Refusal.{Refusal}
 
 pub data Outcome (A : Type 0) : Type 0 where
   answered : A → Outcome A
   refused : ℕ → Outcome A
+
+-- what a result says in plain values
+abbrev pub outcome_in : {A : Type 0} → Result A Refusal → Outcome A
+outcome_in (Ok a) = answered a
+outcome_in (Err r) = refused (number_of r)
 
 -- the number that a host is given: 0 with an answer
 abbrev pub refusal_in : {A : Type 0} → Outcome A → ℕ

@@ -1,7 +1,7 @@
 // A call's inputs, and what comes back.
 use crate::year;
 use counts::sums::Step;
-use counts::{Duration, DurationAnswer, sums};
+use counts::{Duration, sums};
 use refusals::Refusal;
 
 // The inputs of a call: of each number its size, and whether a minus sign stands before it.
@@ -75,8 +75,8 @@ fn signed(size: u64, minus: bool) -> i64 {
         sums::forward(size)
     };
     match answer {
-        DurationAnswer::Lasts(d) => d.0,
-        DurationAnswer::Refused(_) => 0,
+        Ok(d) => d.0,
+        Err(_) => 0,
     }
 }
 

@@ -1,108 +1,39 @@
-// Written by tools/write-scales from its template in tools/templates.
 // BeiDou time: nanoseconds since 2006-01-01 in UTC, with no leap seconds.
-ghost use Rattle.std.specs.Prelude.{◌≡◌, ◌*◌, ◌/◌, pos, ◌+ℤ◌, ◌-ℤ◌};
-ghost use Rattle.counts.specs.Exact.{count_of, duration_of, nearest_count};
-ghost use Rattle.counts.specs.Units.{second, parts_of};
-ghost use Rattle.counts.specs.Answers.{count_in, duration_in};
-ghost use Rattle.scales.specs.Answers.{beidou_in};
+ghost use Rattle.scales.specs.Scales.{gps_minus_beidou};
+ghost use Rattle.std.proofs.Common.{rules};
 
-use counts::units::DurationParts;
-use counts::{CountAnswer, Duration, DurationAnswer, sums, units};
-use refusals::Refusal;
+use crate::behind_gps::BehindGps;
+use crate::scale::Scale;
+use crate::weeks::Weeks;
+use counts::units::{LARGEST_COUNT, NANOS_PER_SECOND};
 
 #[derive(Clone, Copy)]
 pub struct Beidou(pub u64);
 
-// A BeiDou count, or why there is none.
-#[derive(Clone, Copy)]
-pub enum BeidouAnswer {
-    Count(Beidou),
-    Refused(Refusal),
-}
+impl Scale for Beidou {
+    ghost count = { λ t. t.0 };
 
-impl BeidouAnswer {
-    // A plain answer as one of this scale.
-    pub fn of(plain: CountAnswer) -> BeidouAnswer
-        ensures { beidou_in result ≡ count_in plain }
-    {
-        match plain {
-            CountAnswer::Count(n) => BeidouAnswer::Count(Beidou(n)),
-            CountAnswer::Refused(r) => BeidouAnswer::Refused(r),
-        }
-    }
-}
+    ghost tells = { Prim.search rules };
 
-impl Beidou {
-    pub const EPOCH: Beidou = Beidou(0);
+    const EPOCH: Beidou = Beidou(0);
 
-    pub const MIN: Beidou = Beidou(0);
+    const MIN: Beidou = Beidou(0);
 
-    pub const MAX: Beidou = Beidou(units::LARGEST_COUNT);
+    const MAX: Beidou = Beidou(LARGEST_COUNT);
 
-    pub const NANOS_PER_YEAR: u64 = units::NANOS_PER_YEAR;
-
-    pub fn from_nanos(nanos: u64) -> Beidou
-        ensures { result.0 ≡ nanos }
-    {
+    fn from_nanos(nanos: u64) -> Beidou {
         Beidou(nanos)
     }
 
-    pub fn as_nanos(self) -> u64
-        ensures { result ≡ self.0 }
-    {
+    fn as_nanos(self) -> u64 {
         self.0
     }
+}
 
-    pub fn checked_from_seconds(seconds: u64) -> BeidouAnswer
-        ensures { beidou_in result ≡ count_of (pos (seconds * second)) }
-    {
-        BeidouAnswer::of(units::from_seconds(seconds))
-    }
+impl Weeks for Beidou {}
 
-    // Whole seconds.
-    pub fn as_seconds(self) -> u64
-        ensures { result ≡ self.0 / second }
-    {
-        self.0 / units::NANOS_PER_SECOND
-    }
+impl BehindGps for Beidou {
+    ghost BEHIND_GPS_NS = { gps_minus_beidou };
 
-    // Whole seconds, and the nanoseconds left.
-    pub fn as_parts(self) -> DurationParts
-        ensures { result ≡ parts_of self.0 }
-    {
-        units::parts(self.0)
-    }
-
-    pub fn checked_add(self, d: Duration) -> BeidouAnswer
-        ensures { beidou_in result ≡ count_of (pos self.0 +ℤ d.0) }
-    {
-        BeidouAnswer::of(sums::later(self.0, d))
-    }
-
-    pub fn checked_sub_duration(self, d: Duration) -> BeidouAnswer
-        ensures { beidou_in result ≡ count_of (pos self.0 -ℤ d.0) }
-    {
-        BeidouAnswer::of(sums::earlier(self.0, d))
-    }
-
-    // Stops at the first and the last count.
-    pub fn saturating_add(self, d: Duration) -> Beidou
-        ensures { result.0 ≡ nearest_count (pos self.0 +ℤ d.0) }
-    {
-        Beidou(sums::saturating_later(self.0, d))
-    }
-
-    // Stops at the first and the last count.
-    pub fn saturating_sub_duration(self, d: Duration) -> Beidou
-        ensures { result.0 ≡ nearest_count (pos self.0 -ℤ d.0) }
-    {
-        Beidou(sums::saturating_earlier(self.0, d))
-    }
-
-    // The duration since an earlier count, or, with a minus sign, to a later one.
-    pub fn checked_elapsed(self, earlier: Beidou) -> DurationAnswer
-        ensures { duration_in result ≡ duration_of (pos self.0 -ℤ pos earlier.0) }
-    {
-        sums::elapsed(self.0, earlier.0)
-    }
+    const BEHIND_GPS_NS: u64 = 820_108_814 * NANOS_PER_SECOND;
 }

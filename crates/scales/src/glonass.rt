@@ -1,108 +1,28 @@
-// Written by tools/write-scales from its template in tools/templates.
 // GLONASS time: nanoseconds since 1996-01-01 in Moscow, which is UTC and three hours.
-ghost use Rattle.std.specs.Prelude.{◌≡◌, ◌*◌, ◌/◌, pos, ◌+ℤ◌, ◌-ℤ◌};
-ghost use Rattle.counts.specs.Exact.{count_of, duration_of, nearest_count};
-ghost use Rattle.counts.specs.Units.{second, parts_of};
-ghost use Rattle.counts.specs.Answers.{count_in, duration_in};
-ghost use Rattle.scales.specs.Answers.{glonass_in};
+ghost use Rattle.std.proofs.Common.{rules};
 
-use counts::units::DurationParts;
-use counts::{CountAnswer, Duration, DurationAnswer, sums, units};
-use refusals::Refusal;
+use crate::scale::Scale;
+use counts::units::LARGEST_COUNT;
 
 #[derive(Clone, Copy)]
 pub struct Glonass(pub u64);
 
-// A GLONASS count, or why there is none.
-#[derive(Clone, Copy)]
-pub enum GlonassAnswer {
-    Count(Glonass),
-    Refused(Refusal),
-}
+impl Scale for Glonass {
+    ghost count = { λ t. t.0 };
 
-impl GlonassAnswer {
-    // A plain answer as one of this scale.
-    pub fn of(plain: CountAnswer) -> GlonassAnswer
-        ensures { glonass_in result ≡ count_in plain }
-    {
-        match plain {
-            CountAnswer::Count(n) => GlonassAnswer::Count(Glonass(n)),
-            CountAnswer::Refused(r) => GlonassAnswer::Refused(r),
-        }
-    }
-}
+    ghost tells = { Prim.search rules };
 
-impl Glonass {
-    pub const EPOCH: Glonass = Glonass(0);
+    const EPOCH: Glonass = Glonass(0);
 
-    pub const MIN: Glonass = Glonass(0);
+    const MIN: Glonass = Glonass(0);
 
-    pub const MAX: Glonass = Glonass(units::LARGEST_COUNT);
+    const MAX: Glonass = Glonass(LARGEST_COUNT);
 
-    pub const NANOS_PER_YEAR: u64 = units::NANOS_PER_YEAR;
-
-    pub fn from_nanos(nanos: u64) -> Glonass
-        ensures { result.0 ≡ nanos }
-    {
+    fn from_nanos(nanos: u64) -> Glonass {
         Glonass(nanos)
     }
 
-    pub fn as_nanos(self) -> u64
-        ensures { result ≡ self.0 }
-    {
+    fn as_nanos(self) -> u64 {
         self.0
-    }
-
-    pub fn checked_from_seconds(seconds: u64) -> GlonassAnswer
-        ensures { glonass_in result ≡ count_of (pos (seconds * second)) }
-    {
-        GlonassAnswer::of(units::from_seconds(seconds))
-    }
-
-    // Whole seconds.
-    pub fn as_seconds(self) -> u64
-        ensures { result ≡ self.0 / second }
-    {
-        self.0 / units::NANOS_PER_SECOND
-    }
-
-    // Whole seconds, and the nanoseconds left.
-    pub fn as_parts(self) -> DurationParts
-        ensures { result ≡ parts_of self.0 }
-    {
-        units::parts(self.0)
-    }
-
-    pub fn checked_add(self, d: Duration) -> GlonassAnswer
-        ensures { glonass_in result ≡ count_of (pos self.0 +ℤ d.0) }
-    {
-        GlonassAnswer::of(sums::later(self.0, d))
-    }
-
-    pub fn checked_sub_duration(self, d: Duration) -> GlonassAnswer
-        ensures { glonass_in result ≡ count_of (pos self.0 -ℤ d.0) }
-    {
-        GlonassAnswer::of(sums::earlier(self.0, d))
-    }
-
-    // Stops at the first and the last count.
-    pub fn saturating_add(self, d: Duration) -> Glonass
-        ensures { result.0 ≡ nearest_count (pos self.0 +ℤ d.0) }
-    {
-        Glonass(sums::saturating_later(self.0, d))
-    }
-
-    // Stops at the first and the last count.
-    pub fn saturating_sub_duration(self, d: Duration) -> Glonass
-        ensures { result.0 ≡ nearest_count (pos self.0 -ℤ d.0) }
-    {
-        Glonass(sums::saturating_earlier(self.0, d))
-    }
-
-    // The duration since an earlier count, or, with a minus sign, to a later one.
-    pub fn checked_elapsed(self, earlier: Glonass) -> DurationAnswer
-        ensures { duration_in result ≡ duration_of (pos self.0 -ℤ pos earlier.0) }
-    {
-        sums::elapsed(self.0, earlier.0)
     }
 }

@@ -4,9 +4,10 @@ ghost use Rattle.counts.specs.Units.{second, day_seconds, of_units};
 ghost use Rattle.scales.specs.Answers.{glonass_in};
 ghost use Rattle.scales.specs.Scales.{weekday_of};
 
-use crate::glonass::{Glonass, GlonassAnswer};
+use crate::glonass::Glonass;
 use counts::units;
 use counts::units::DurationParts;
+use refusals::Refusal;
 
 const SECONDS_PER_DAY: u32 = 86_400;
 
@@ -14,10 +15,10 @@ const NANOS_PER_DAY: u64 = SECONDS_PER_DAY as u64 * units::NANOS_PER_SECOND;
 
 impl Glonass {
     // Whole days and the time of the day.
-    pub fn from_day_tod(day: u32, tod: DurationParts) -> GlonassAnswer
+    pub fn from_day_tod(day: u32, tod: DurationParts) -> Result<Glonass, Refusal>
         ensures { glonass_in result ≡ of_units day_seconds day tod.seconds tod.nanos }
     {
-        GlonassAnswer::of(units::of_units(SECONDS_PER_DAY, day, tod))
+        Ok(Glonass(units::of_units(SECONDS_PER_DAY, day, tod)?))
     }
 
     pub fn day(self) -> u32
@@ -31,12 +32,6 @@ impl Glonass {
         ensures { result ≡ self.0 % (day_seconds * second) / second }
     {
         (self.0 % NANOS_PER_DAY / units::NANOS_PER_SECOND) as u32
-    }
-
-    pub fn sub_second_nanos(self) -> u32
-        ensures { result ≡ self.0 % second }
-    {
-        (self.0 % units::NANOS_PER_SECOND) as u32
     }
 
     // Monday is 1, Sunday 7; day 0 is a Monday.

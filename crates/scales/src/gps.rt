@@ -1,108 +1,31 @@
-// Written by tools/write-scales from its template in tools/templates.
 // GPS time: nanoseconds since 1980-01-06, with no leap seconds.
-ghost use Rattle.std.specs.Prelude.{◌≡◌, ◌*◌, ◌/◌, pos, ◌+ℤ◌, ◌-ℤ◌};
-ghost use Rattle.counts.specs.Exact.{count_of, duration_of, nearest_count};
-ghost use Rattle.counts.specs.Units.{second, parts_of};
-ghost use Rattle.counts.specs.Answers.{count_in, duration_in};
-ghost use Rattle.scales.specs.Answers.{gps_in};
+ghost use Rattle.std.proofs.Common.{rules};
 
-use counts::units::DurationParts;
-use counts::{CountAnswer, Duration, DurationAnswer, sums, units};
-use refusals::Refusal;
+use crate::scale::Scale;
+use crate::weeks::Weeks;
+use counts::units::LARGEST_COUNT;
 
 #[derive(Clone, Copy)]
 pub struct Gps(pub u64);
 
-// A GPS count, or why there is none.
-#[derive(Clone, Copy)]
-pub enum GpsAnswer {
-    Count(Gps),
-    Refused(Refusal),
-}
+impl Scale for Gps {
+    ghost count = { λ t. t.0 };
 
-impl GpsAnswer {
-    // A plain answer as one of this scale.
-    pub fn of(plain: CountAnswer) -> GpsAnswer
-        ensures { gps_in result ≡ count_in plain }
-    {
-        match plain {
-            CountAnswer::Count(n) => GpsAnswer::Count(Gps(n)),
-            CountAnswer::Refused(r) => GpsAnswer::Refused(r),
-        }
-    }
-}
+    ghost tells = { Prim.search rules };
 
-impl Gps {
-    pub const EPOCH: Gps = Gps(0);
+    const EPOCH: Gps = Gps(0);
 
-    pub const MIN: Gps = Gps(0);
+    const MIN: Gps = Gps(0);
 
-    pub const MAX: Gps = Gps(units::LARGEST_COUNT);
+    const MAX: Gps = Gps(LARGEST_COUNT);
 
-    pub const NANOS_PER_YEAR: u64 = units::NANOS_PER_YEAR;
-
-    pub fn from_nanos(nanos: u64) -> Gps
-        ensures { result.0 ≡ nanos }
-    {
+    fn from_nanos(nanos: u64) -> Gps {
         Gps(nanos)
     }
 
-    pub fn as_nanos(self) -> u64
-        ensures { result ≡ self.0 }
-    {
+    fn as_nanos(self) -> u64 {
         self.0
     }
-
-    pub fn checked_from_seconds(seconds: u64) -> GpsAnswer
-        ensures { gps_in result ≡ count_of (pos (seconds * second)) }
-    {
-        GpsAnswer::of(units::from_seconds(seconds))
-    }
-
-    // Whole seconds.
-    pub fn as_seconds(self) -> u64
-        ensures { result ≡ self.0 / second }
-    {
-        self.0 / units::NANOS_PER_SECOND
-    }
-
-    // Whole seconds, and the nanoseconds left.
-    pub fn as_parts(self) -> DurationParts
-        ensures { result ≡ parts_of self.0 }
-    {
-        units::parts(self.0)
-    }
-
-    pub fn checked_add(self, d: Duration) -> GpsAnswer
-        ensures { gps_in result ≡ count_of (pos self.0 +ℤ d.0) }
-    {
-        GpsAnswer::of(sums::later(self.0, d))
-    }
-
-    pub fn checked_sub_duration(self, d: Duration) -> GpsAnswer
-        ensures { gps_in result ≡ count_of (pos self.0 -ℤ d.0) }
-    {
-        GpsAnswer::of(sums::earlier(self.0, d))
-    }
-
-    // Stops at the first and the last count.
-    pub fn saturating_add(self, d: Duration) -> Gps
-        ensures { result.0 ≡ nearest_count (pos self.0 +ℤ d.0) }
-    {
-        Gps(sums::saturating_later(self.0, d))
-    }
-
-    // Stops at the first and the last count.
-    pub fn saturating_sub_duration(self, d: Duration) -> Gps
-        ensures { result.0 ≡ nearest_count (pos self.0 -ℤ d.0) }
-    {
-        Gps(sums::saturating_earlier(self.0, d))
-    }
-
-    // The duration since an earlier count, or, with a minus sign, to a later one.
-    pub fn checked_elapsed(self, earlier: Gps) -> DurationAnswer
-        ensures { duration_in result ≡ duration_of (pos self.0 -ℤ pos earlier.0) }
-    {
-        sums::elapsed(self.0, earlier.0)
-    }
 }
+
+impl Weeks for Gps {}

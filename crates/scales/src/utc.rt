@@ -1,108 +1,28 @@
-// Written by tools/write-scales from its template in tools/templates.
 // UTC: nanoseconds since 1972-01-01, the inserted seconds not counted.
-ghost use Rattle.std.specs.Prelude.{◌≡◌, ◌*◌, ◌/◌, pos, ◌+ℤ◌, ◌-ℤ◌};
-ghost use Rattle.counts.specs.Exact.{count_of, duration_of, nearest_count};
-ghost use Rattle.counts.specs.Units.{second, parts_of};
-ghost use Rattle.counts.specs.Answers.{count_in, duration_in};
-ghost use Rattle.scales.specs.Answers.{utc_in};
+ghost use Rattle.std.proofs.Common.{rules};
 
-use counts::units::DurationParts;
-use counts::{CountAnswer, Duration, DurationAnswer, sums, units};
-use refusals::Refusal;
+use crate::scale::Scale;
+use counts::units::LARGEST_COUNT;
 
 #[derive(Clone, Copy)]
 pub struct Utc(pub u64);
 
-// A UTC count, or why there is none.
-#[derive(Clone, Copy)]
-pub enum UtcAnswer {
-    Count(Utc),
-    Refused(Refusal),
-}
+impl Scale for Utc {
+    ghost count = { λ t. t.0 };
 
-impl UtcAnswer {
-    // A plain answer as one of this scale.
-    pub fn of(plain: CountAnswer) -> UtcAnswer
-        ensures { utc_in result ≡ count_in plain }
-    {
-        match plain {
-            CountAnswer::Count(n) => UtcAnswer::Count(Utc(n)),
-            CountAnswer::Refused(r) => UtcAnswer::Refused(r),
-        }
-    }
-}
+    ghost tells = { Prim.search rules };
 
-impl Utc {
-    pub const EPOCH: Utc = Utc(0);
+    const EPOCH: Utc = Utc(0);
 
-    pub const MIN: Utc = Utc(0);
+    const MIN: Utc = Utc(0);
 
-    pub const MAX: Utc = Utc(units::LARGEST_COUNT);
+    const MAX: Utc = Utc(LARGEST_COUNT);
 
-    pub const NANOS_PER_YEAR: u64 = units::NANOS_PER_YEAR;
-
-    pub fn from_nanos(nanos: u64) -> Utc
-        ensures { result.0 ≡ nanos }
-    {
+    fn from_nanos(nanos: u64) -> Utc {
         Utc(nanos)
     }
 
-    pub fn as_nanos(self) -> u64
-        ensures { result ≡ self.0 }
-    {
+    fn as_nanos(self) -> u64 {
         self.0
-    }
-
-    pub fn checked_from_seconds(seconds: u64) -> UtcAnswer
-        ensures { utc_in result ≡ count_of (pos (seconds * second)) }
-    {
-        UtcAnswer::of(units::from_seconds(seconds))
-    }
-
-    // Whole seconds.
-    pub fn as_seconds(self) -> u64
-        ensures { result ≡ self.0 / second }
-    {
-        self.0 / units::NANOS_PER_SECOND
-    }
-
-    // Whole seconds, and the nanoseconds left.
-    pub fn as_parts(self) -> DurationParts
-        ensures { result ≡ parts_of self.0 }
-    {
-        units::parts(self.0)
-    }
-
-    pub fn checked_add(self, d: Duration) -> UtcAnswer
-        ensures { utc_in result ≡ count_of (pos self.0 +ℤ d.0) }
-    {
-        UtcAnswer::of(sums::later(self.0, d))
-    }
-
-    pub fn checked_sub_duration(self, d: Duration) -> UtcAnswer
-        ensures { utc_in result ≡ count_of (pos self.0 -ℤ d.0) }
-    {
-        UtcAnswer::of(sums::earlier(self.0, d))
-    }
-
-    // Stops at the first and the last count.
-    pub fn saturating_add(self, d: Duration) -> Utc
-        ensures { result.0 ≡ nearest_count (pos self.0 +ℤ d.0) }
-    {
-        Utc(sums::saturating_later(self.0, d))
-    }
-
-    // Stops at the first and the last count.
-    pub fn saturating_sub_duration(self, d: Duration) -> Utc
-        ensures { result.0 ≡ nearest_count (pos self.0 -ℤ d.0) }
-    {
-        Utc(sums::saturating_earlier(self.0, d))
-    }
-
-    // The duration since an earlier count, or, with a minus sign, to a later one.
-    pub fn checked_elapsed(self, earlier: Utc) -> DurationAnswer
-        ensures { duration_in result ≡ duration_of (pos self.0 -ℤ pos earlier.0) }
-    {
-        sums::elapsed(self.0, earlier.0)
     }
 }

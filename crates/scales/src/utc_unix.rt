@@ -4,20 +4,21 @@ ghost use Rattle.counts.specs.Exact.{count_of};
 ghost use Rattle.counts.specs.Units.{second, unix_offset};
 ghost use Rattle.scales.specs.Answers.{utc_in};
 
-use crate::utc::{Utc, UtcAnswer};
+use crate::utc::Utc;
 use counts::unix;
+use refusals::Refusal;
 
 impl Utc {
-    pub fn from_unix_seconds(seconds: i64) -> UtcAnswer
+    pub fn from_unix_seconds(seconds: i64) -> Result<Utc, Refusal>
         ensures { utc_in result ≡ count_of ((seconds -ℤ pos unix_offset) *ℤ pos second) }
     {
-        UtcAnswer::of(unix::from_unix_seconds(seconds))
+        Ok(Utc(unix::from_unix_seconds(seconds)?))
     }
 
-    pub fn from_unix_nanos(nanos: i64) -> UtcAnswer
+    pub fn from_unix_nanos(nanos: i64) -> Result<Utc, Refusal>
         ensures { utc_in result ≡ count_of (nanos -ℤ pos (unix_offset * second)) }
     {
-        UtcAnswer::of(unix::from_unix_nanos(nanos))
+        Ok(Utc(unix::from_unix_nanos(nanos)?))
     }
 
     pub fn as_unix_seconds(self) -> i64

@@ -2,5 +2,4 @@ pub mod Between
 pub mod Fields
 pub mod WayBack
 pub mod Years
-pub mod Tells
 pub mod Calls

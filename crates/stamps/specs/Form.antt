@@ -1,16 +1,9 @@
 -- The form YYYY-MM-DDThh:mm:ss.nnnnnnnnnZ: 30 bytes, any digits in its fields.
 use Rattle.std.specs.Prelude.{◌≡◌, ℕ, ◌^◌, ◌<◌, Bool, true, false, cond, ◌&&◌, List, [], ◌∷◌, ◌++◌, leb, pos, nat_abs, take, drop}
-use Rattle.refusals.specs.Number.{number_of}
 use Rattle.refusals.specs.Outcome.{Outcome, answered, refused}
 use Rattle.civil.specs.Fields.{fields}
 use Rattle.civil.specs.declared.CivilDateTime.{CivilDateTime}
 use Rattle.words.specs.Decimal.{value_of, in_digits}
-use Rattle.stamps.specs.declared.StampAnswer.{StampAnswer}
-use Rattle.stamps.specs.declared.StampAnswer.TheVariants as answer
-
-abbrev pub stamp_in : StampAnswer → Outcome CivilDateTime
-stamp_in (answer.Fields f) = answered f
-stamp_in (answer.Refused r) = refused (number_of r)
 
 -- a number in k digits, and the mark after it
 abbrev pub field : ℕ → ℕ → ℕ → List ℕ

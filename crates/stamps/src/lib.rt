@@ -4,27 +4,22 @@
 pub mod inner;
 
 ghost use Rattle.std.specs.Prelude.{◌≡◌};
-ghost use Rattle.stamps.specs.Form.{stamp_in, stamp_read};
+ghost use Rattle.refusals.specs.Outcome.{outcome_in};
+ghost use Rattle.stamps.specs.Form.{stamp_read};
 
 use civil::CivilDateTime;
 use refusals::Refusal;
 
-// The fields as their digits say, real or not, or why there are none.
-#[derive(Clone, Copy)]
-pub enum StampAnswer {
-    Fields(CivilDateTime),
-    Refused(Refusal),
-}
 
 // The fields of 30 bytes in the form; any other bytes are refused.
-pub fn read(s: &[u8]) -> StampAnswer
-    ensures { stamp_in result ≡ stamp_read s.now }
+pub fn read(s: &[u8]) -> Result<CivilDateTime, Refusal>
+    ensures { outcome_in result ≡ stamp_read s.now }
 {
     let first = b"0000-00-00T00:00:00.000000000Z";
     let last = b"9999-99-99T99:99:99.999999999Z";
     if inner::within(first, last, s) {
-        StampAnswer::Fields(inner::fields(s))
+        Ok(inner::fields(s))
     } else {
-        StampAnswer::Refused(Refusal::BadLine)
+        Err(Refusal::BadLine)
     }
 }

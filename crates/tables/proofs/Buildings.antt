@@ -1,4 +1,5 @@
 -- An accepted building makes the table of the list, which is valid; a refused one makes the table with no entry.
+use Rattle.std.specs.Prelude.{Err, Ok, Result}
 use mathlib.Core.Path.{◌≡◌, refl, sym, ap, ◌∙◌}
 use mathlib.Core.Bool.{true}
 use mathlib.Core.List.{List, [], ◌∷◌, ◌++◌, map}
@@ -15,8 +16,6 @@ use Rattle.tables.specs.Answers.{taken_in}
 use Rattle.tables.specs.Entries.{Entry, threshold, offset, valid, checking, building_refusal}
 use Rattle.tables.specs.Slots.{paired, entries_of, valid_table, no_expiry, table_of, built}
 use Rattle.tables.specs.declared.LeapTable.{LeapTable}
-use Rattle.tables.specs.declared.Taken.{Taken}
-use Rattle.tables.specs.declared.Taken.TheVariants as taken
 use Rattle.tables.proofs.Neighbours.{passes_valid}
 use Rattle.tables.proofs.Growing.{not_too_long}
 use Rattle.tables.proofs.LeapTable.from_lists.Reads as from_lists_contract
@@ -29,9 +28,9 @@ pub record Builds (es : List Entry) (table : LeapTable) : Type 0 where
   pub valid : valid_table table ≡ true
 
 -- what a building leaves by its answer
-pub record Makes (es : List Entry) (answer : Taken) (table : LeapTable) : Type 0 where
-  pub done : answer ≡ taken.Done → Builds es table
-  pub refused : (why : Refusal) → answer ≡ taken.Refused why → table ≡ table_of []
+pub record Makes (es : List Entry) (answer : Result Unit Refusal) (table : LeapTable) : Type 0 where
+  pub done : answer ≡ (Ok tt) → Builds es table
+  pub refused : (why : Refusal) → answer ≡ Err why → table ≡ table_of []
 
 side_by_side : (es : List Entry) (xs : List ℕ) (zs : List ℤ)
     → paired (map threshold es ++ xs) (map offset es ++ zs) ≡ es ++ paired xs zs
@@ -65,7 +64,7 @@ module _ (es : List Entry) where
       rw z (record { list = table_list es; size = refl; expiry = refl; valid = v })
 
   -- whatever gives the number and the table of the definition
-  pub makes : (answer : Taken) (table : LeapTable) → (taken_in answer, table) ≡ built es → Makes es answer table
+  pub makes : (answer : Result Unit Refusal) (table : LeapTable) → (taken_in answer, table) ≡ built es → Makes es answer table
   makes answer table is =
       let number : taken_in answer ≡ (built es).0 = ap (λ (x : ℕ × LeapTable). x.0) is in
       let made : table ≡ (built es).1 = ap (λ (x : ℕ × LeapTable). x.1) is in

@@ -1,8 +1,8 @@
 -- Each call of this crate leaves one answer for each input, and one table where it gives one.
 use mathlib.Core.Path.{sym, ◌∙◌}
+use Rattle.refusals.proofs.Tells.{outcome_tells}
 use Rattle.refusals.proofs.OneAnswer.{OneAnswer, viewed}
-use Rattle.tables.proofs.Tells.{extension_tells, length_tells, empty_tells, entry_tells, update_tells}
-use Rattle.tables.proofs.Tells.{offset_tells, dated_offset_tells}
+use Rattle.tables.proofs.Tells.{extension_tells, entry_tells, update_tells, dated_tells}
 use Rattle.tables.proofs.LeapEntry.new.Reads as entry_new_contract
 use Rattle.tables.proofs.LeapTable.new.Reads as new_contract
 use Rattle.tables.proofs.LeapTable.from_lists.Reads as from_lists_contract
@@ -29,10 +29,10 @@ pub try_extend : OneAnswer try_extend_contract.Post
 try_extend κ a x y e f p q = viewed extension_tells x y p q
 
 pub len : OneAnswer len_contract.Post
-len κ a x y e f p q = viewed length_tells x y p q
+len κ a x y e f p q = viewed outcome_tells x y p q
 
 pub is_empty : OneAnswer is_empty_contract.Post
-is_empty κ a x y e f p q = viewed empty_tells x y p q
+is_empty κ a x y e f p q = viewed outcome_tells x y p q
 
 pub entry_at : OneAnswer entry_at_contract.Post
 entry_at κ a x y e f p q = viewed entry_tells x y p q
@@ -41,10 +41,10 @@ pub last_update_lem : OneAnswer last_update_contract.Post
 last_update_lem κ a x y e f p q = viewed update_tells x y p q
 
 pub current_tai_minus_utc : OneAnswer current_tai_minus_utc_contract.Post
-current_tai_minus_utc κ a x y e f p q = viewed offset_tells x y p q
+current_tai_minus_utc κ a x y e f p q = viewed outcome_tells x y p q
 
 pub tai_minus_utc_at : OneAnswer tai_minus_utc_at_contract.Post
-tai_minus_utc_at κ a x y e f p q = viewed dated_offset_tells x y p q
+tai_minus_utc_at κ a x y e f p q = viewed dated_tells x y p q
 
 pub expiry : OneAnswer expiry_contract.Post
 expiry κ a x y e f p q = viewed update_tells x y p q

@@ -1,5 +1,6 @@
 -- An accepted extension joins its entry to the list and moves no other slot, since only the slot at the length is set.
 -- A refused one keeps the table.
+use Rattle.std.specs.Prelude.{Err, Ok, Result}
 use mathlib.Core.Path.{◌≡◌, refl, sym, ap, ◌∙◌}
 use mathlib.Core.Bool.{Bool, true, false, cond}
 use mathlib.Core.List.{List, [], ◌∷◌, ◌++◌, map}
@@ -18,8 +19,6 @@ use Rattle.tables.specs.Entries.{Entry, threshold, offset, neighbours, valid, la
 use Rattle.tables.specs.Slots.{entries_of, valid_table, table_of, joined_to, extension_refusal, extended}
 use Rattle.tables.specs.declared.LeapEntry.{LeapEntry}
 use Rattle.tables.specs.declared.LeapTable.{LeapTable}
-use Rattle.tables.specs.declared.Taken.{Taken}
-use Rattle.tables.specs.declared.Taken.TheVariants as taken
 use Rattle.tables.proofs.FirstSlots.{one_stored}
 use Rattle.tables.proofs.Neighbours.{zero_follows}
 use Rattle.tables.proofs.Joining.{valid-joined}
@@ -43,9 +42,9 @@ pub record Grows (t : LeapTable) (e : LeapEntry) (after : LeapTable) : Type 0 wh
   pub valid : valid_table after ≡ true
 
 -- what an extension leaves by its answer: done, the table grown by the entry; refused, the table itself
-pub record Extends (t : LeapTable) (e : LeapEntry) (answer : Taken) (after : LeapTable) : Type 0 where
-  pub done : answer ≡ taken.Done → Sized t → Grows t e after
-  pub refused : (why : Refusal) → answer ≡ taken.Refused why → after ≡ t
+pub record Extends (t : LeapTable) (e : LeapEntry) (answer : Result Unit Refusal) (after : LeapTable) : Type 0 where
+  pub done : answer ≡ (Ok tt) → Sized t → Grows t e after
+  pub refused : (why : Refusal) → answer ≡ Err why → after ≡ t
 
 -- an entry that is not refused leaves the list valid
 pub stays_valid : (es : List Entry) (e : Entry) → valid es ≡ true → 0 ≡ join_refusal es e → valid (es ++ e ∷ []) ≡ true
@@ -86,7 +85,7 @@ module _ (t : LeapTable) (e : LeapEntry) where
     extension_grows z = rw z (joined_grows (accepted z).0 (accepted z).1)
 
   -- whatever gives the number and the table of the definition
-  pub extends : (answer : Taken) (after : LeapTable) → (taken_in answer, after) ≡ extended t e → Extends t e answer after
+  pub extends : (answer : Result Unit Refusal) (after : LeapTable) → (taken_in answer, after) ≡ extended t e → Extends t e answer after
   extends answer after is =
       let number : taken_in answer ≡ (extended t e).0 = ap (λ (x : ℕ × LeapTable). x.0) is in
       let table : after ≡ (extended t e).1 = ap (λ (x : ℕ × LeapTable). x.1) is in

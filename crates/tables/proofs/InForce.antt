@@ -1,4 +1,5 @@
 -- What is in force is what the last entry at or below the reading tells, or the first.
+use Rattle.std.specs.Prelude.{None, Some}
 use mathlib.Core.Path.{◌≡◌, refl, ap, ◌∙◌}
 use mathlib.Core.Bool.{true, cond}
 use mathlib.Core.List.{List, [], ◌∷◌}
@@ -15,8 +16,6 @@ use Rattle.tables.specs.Entries.{Entry, threshold, offset, entry, valid, first_t
 use Rattle.tables.specs.Slots.{slots}
 use Rattle.tables.specs.Search.{Rises, AtOrBelow, slot_told}
 use Rattle.tables.specs.declared.Lookup.{Lookup}
-use Rattle.tables.specs.declared.Place.TheVariants as place
-use Rattle.tables.specs.declared.Threshold.TheVariants as next
 use Rattle.tables.proofs.FirstSlots.{slots_length, slot_is}
 use Rattle.tables.proofs.Neighbours.{thresholds_rise}
 
@@ -94,13 +93,13 @@ module _ (xs : List ℕ) (zs : List ℤ) (n : ℕ) (h : n ≤ length xs) (h' : n
       }
 
   -- the threshold of the first entry from place i on
-  first-from : (i : ℕ) → first_threshold (drop i es) ≡ cond (ltb i n) (next.At (get_or xs i 0)) next.Nothing
+  first-from : (i : ℕ) → first_threshold (drop i es) ≡ cond (ltb i n) (Some (get_or xs i 0)) None
   first-from i = by_order (dec_lt i n)
     where
-      by_order : Dec (i < n) → first_threshold (drop i es) ≡ cond (ltb i n) (next.At (get_or xs i 0)) next.Nothing
+      by_order : Dec (i < n) → first_threshold (drop i es) ≡ cond (ltb i n) (Some (get_or xs i 0)) None
       by_order (yes l) =
           let n_is = slots_length xs zs n h h' in
-          rw (lt-ltb i n l) (ap first_threshold (drop-cons es i d (omega arith)) ∙ ap next.At (at i l))
+          rw (lt-ltb i n l) (ap first_threshold (drop-cons es i d (omega arith)) ∙ ap Some (at i l))
       by_order (no l) =
           let n_is = slots_length xs zs n h h' in
           rw (le-ltb i n (omega (arith, l))) (ap first_threshold (drop_of_length-le es {i = i} (omega (arith, l))))
@@ -113,8 +112,8 @@ module _ (xs : List ℕ) (zs : List ℤ) (n : ℕ) (h : n ≤ length xs) (h' : n
       in_force_lem t k d es (omega arith) (reached t k q)
       ∙ (λ i. record {
         offset = offset (slot_is xs zs n (k - 1) d (omega arith) h h' i);
-        place = place.At (k - 1);
-        next = (first-from (suc (k - 1)) ∙ ap (λ (j : ℕ). cond (ltb j n) (next.At (get_or xs j 0)) next.Nothing) one) i;
+        place = Some (k - 1);
+        next = (first-from (suc (k - 1)) ∙ ap (λ (j : ℕ). cond (ltb j n) (Some (get_or xs j 0)) None) one) i;
       })
 
 pub none_in_force : (t : ℕ) → lookup [] 0 ≡ lookup [] t

@@ -1,4 +1,5 @@
 -- A lookup in a valid list answers by the last entry at or below the reading.
+use Rattle.std.specs.Prelude.{None}
 use mathlib.Core.Path.{◌≡◌, refl, ap, ◌∙◌}
 use mathlib.Core.Bool.{true}
 use mathlib.Core.List.{List, []}
@@ -9,8 +10,6 @@ use native.Mathlib.Decide.{dec_lt}
 use lib.ListN.{length, get_or, get_elem?, drop}
 use lib.IntN.{pos}
 use Rattle.tables.specs.Entries.{Entry, threshold, entry, valid, telling, lookup}
-use Rattle.tables.specs.declared.Place.TheVariants as place
-use Rattle.tables.specs.declared.Threshold.TheVariants as next
 use Rattle.tables.proofs.FirstSlots.{some_at}
 use Rattle.tables.proofs.Neighbours.{thresholds_rise}
 use Rattle.tables.proofs.InForce.{Reached, in_force_lem}
@@ -18,7 +17,7 @@ use Rattle.tables.proofs.Tested.{in_range, at_place}
 
 -- what is in force at t, by the entry that tells it
 pub record LooksUp (es : List Entry) (t : ℕ) : Type 0 where
-  pub none : es ≡ [] → lookup es t ≡ record { offset = pos 19; place = place.Nothing; next = next.Nothing }
+  pub none : es ≡ [] → lookup es t ≡ record { offset = pos 19; place = None; next = None }
   pub before : (e : Entry) → get_elem? es 0 ≡ some e → t < threshold e → lookup es t ≡ telling 0 e (drop 1 es)
   -- the entry at place k is at or below t, and every later one above
   pub last : (k : ℕ) (e : Entry) → get_elem? es k ≡ some e → threshold e ≤ t

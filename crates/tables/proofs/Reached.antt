@@ -1,5 +1,6 @@
 -- The offset in force over a regular list is 19 and the number of later thresholds passed; the laws of that number, by
 -- induction on the list.
+use Rattle.std.specs.Prelude.{None, Some, ℤ}
 use mathlib.Core.Path.{◌≡◌, refl, ap, ◌∙◌}
 use mathlib.Core.Bool.{true, cond, ◌&&◌}
 use mathlib.Core.List.{List, [], ◌∷◌, Memᴰ}
@@ -13,8 +14,6 @@ use lib.IntN.{pos, ◌+ℤ◌}
 use Rattle.tables.specs.Entries.{Entry, threshold, offset, equal, neighbours, follows, a_day_on, day}
 use Rattle.tables.specs.Entries.{valid, begins, regular, first_threshold, telling, in_force}
 use Rattle.tables.specs.declared.Lookup.{Lookup}
-use Rattle.tables.specs.declared.Place.TheVariants as place
-use Rattle.tables.specs.declared.Threshold.TheVariants as next
 use Rattle.tables.proofs.Integers.{equal_true}
 use Rattle.tables.proofs.Neighbours.{both}
 
@@ -128,7 +127,7 @@ an_entry_more es t t' b = go es b.among
 
 -- what a lookup tells by numbers, before the entries es
 abbrev pub told : ℕ → ℕ → List Entry → Lookup
-told n k es = record { offset = pos n; place = place.At k; next = first_threshold es }
+told n k es = record { offset = pos n; place = Some k; next = first_threshold es }
 
 -- what is in force from place k on, where p is: the entry as many places on as thresholds are passed
 pub by_number : (p : Entry) (es : List Entry) (t k n : ℕ) → Chain p es → offset p ≡ pos n
@@ -137,7 +136,7 @@ unfolding in_force reached
 by_number p [] t k n c o =
     let same : n ≡ n + 0 = omega arith in
     let here : k ≡ k + 0 = omega arith in
-    λ i. record { offset = (o ∙ ap pos same) i; place = place.At (here i); next = next.Nothing }
+    λ i. record { offset = (o ∙ ap pos same) i; place = Some (here i); next = None }
 by_number p (e ∷ es) t k n c o =
     go (dec_le (threshold e) t) (by_number e es t (k + 1) (suc n) c.2 (c.1 ∙ rw o (ap pos (omega arith))))
   where
@@ -159,4 +158,4 @@ by_number p (e ∷ es) t k n c o =
         let same : n ≡ n + 0 = omega arith in
         let here : k ≡ k + 0 = omega arith in
         rw (lt-leb (threshold e) t a)
-        ((λ i. record { offset = (o ∙ ap pos same) i; place = place.At (here i); next = next.At (threshold e) }) ∙ ap all zero_on)
+        ((λ i. record { offset = (o ∙ ap pos same) i; place = Some (here i); next = Some (threshold e) }) ∙ ap all zero_on)

@@ -1,12 +1,9 @@
 -- Lists of leap-second entries: which are valid, which offset is in force, and why an entry or a list is refused.
-use Rattle.std.specs.Prelude.{Bool, true, false, cond, ◌&&◌, List, [], ◌∷◌, ℕ, ◌+◌, ◌*◌, ◌%◌, ltb, leb, eqb, length, ℤ, pos, negsuc, nat_abs, ◌+ℤ◌, ◌-ℤ◌, ◌*ℤ◌}
-use Rattle.std.proofs.Math.Option.{Option, none, some}
+use Rattle.std.specs.Prelude.{Bool, true, false, cond, ◌&&◌, List, [], ◌∷◌, ℕ, ◌+◌, ◌*◌, ◌%◌, ltb, leb, eqb, length, ℤ, pos, negsuc, nat_abs, ◌+ℤ◌, ◌-ℤ◌, ◌*ℤ◌, None, Option, Some}
+use Rattle.std.proofs.Math.Option as maybe
 use Rattle.counts.specs.Units.{second, day_seconds}
 use Rattle.tables.specs.declared.LeapEntry.{LeapEntry}
 use Rattle.tables.specs.declared.Lookup.{Lookup}
-use Rattle.tables.specs.declared.Place.TheVariants as place
-use Rattle.tables.specs.declared.Threshold.{Threshold}
-use Rattle.tables.specs.declared.Threshold.TheVariants as next
 
 -- from the TAI reading `threshold e` on, in nanoseconds, TAI is `offset e` seconds ahead of UTC
 abbrev pub Entry : Type 0
@@ -64,13 +61,13 @@ abbrev pub on_days : List Entry → Bool
 on_days es = regular es && neighbours (λ p e. begins_a_day e) es
 
 -- the threshold of the first of some entries
-abbrev pub first_threshold : List Entry → Threshold
-first_threshold [] = next.Nothing
-first_threshold (e ∷ es) = next.At (threshold e)
+abbrev pub first_threshold : List Entry → Option ℕ
+first_threshold [] = None
+first_threshold (e ∷ es) = Some (threshold e)
 
 -- what a lookup tells of entry e at place k, before the entries es
 abbrev pub telling : ℕ → Entry → List Entry → Lookup
-telling k e es = record { offset = offset e; place = place.At k; next = first_threshold es }
+telling k e es = record { offset = offset e; place = Some k; next = first_threshold es }
 
 -- what is in force at t from place k on, where e is: e, or a later entry as long as thresholds are ≤ t
 unfoldable pub in_force : ℕ → ℕ → Entry → List Entry → Lookup
@@ -80,7 +77,7 @@ in_force t k e (f ∷ fs) = cond (leb (threshold f) t) (in_force t (k + 1) f fs)
 -- what is in force at a TAI reading: the offset 19 if there is no entry, the first entry below the first threshold, else
 -- the last entry with threshold ≤ t (in a valid list: proofs/Lookups.antt)
 unfoldable pub lookup : List Entry → ℕ → Lookup
-lookup [] t = record { offset = pos 19; place = place.Nothing; next = next.Nothing }
+lookup [] t = record { offset = pos 19; place = None; next = None }
 lookup (e ∷ es) t = in_force t 0 e es
 
 abbrev pub offset_at : List Entry → ℕ → ℤ
@@ -97,10 +94,10 @@ current_offset [] = pos 19
 current_offset (e ∷ es) = offset (last_or e es)
 
 -- the last threshold; nothing for no entry or one
-unfoldable pub last_update : List Entry → Option ℕ
-last_update [] = none
-last_update (e ∷ []) = none
-last_update (e ∷ f ∷ fs) = some (threshold (last_or f fs))
+unfoldable pub last_update : List Entry → maybe.Option ℕ
+last_update [] = maybe.none
+last_update (e ∷ []) = maybe.none
+last_update (e ∷ f ∷ fs) = maybe.some (threshold (last_or f fs))
 
 -- why an offset cannot follow another, 7, 4 in that order; 0 where it can
 abbrev pub offset_refusal : ℤ → ℤ → ℕ

@@ -1,9 +1,7 @@
 -- What a search by halves finds among rising thresholds, and what a lookup by slots tells. Only contracts of private
 -- functions cite it.
-use Rattle.std.specs.Prelude.{cond, List, ℕ, ◌+◌, ◌≤◌, ◌<◌, ltb, ℤ, pos, get_or}
+use Rattle.std.specs.Prelude.{cond, List, ℕ, ◌+◌, ◌≤◌, ◌<◌, ltb, ℤ, pos, get_or, None, Some}
 use Rattle.tables.specs.declared.Lookup.{Lookup}
-use Rattle.tables.specs.declared.Place.TheVariants as place
-use Rattle.tables.specs.declared.Threshold.TheVariants as next
 
 -- the first n thresholds rise strictly
 pub record Rises (xs : List ℕ) (n : ℕ) : Type 0 where
@@ -19,6 +17,6 @@ pub record AtOrBelow (xs : List ℕ) (n t k : ℕ) : Type 0 where
 abbrev pub slot_told : List ℕ → List ℤ → ℕ → ℕ → Lookup
 slot_told xs zs n i = record {
   offset = get_or zs i (pos 0);
-  place = place.At i;
-  next = cond (ltb (i + 1) n) (next.At (get_or xs (i + 1) 0)) next.Nothing;
+  place = Some i;
+  next = cond (ltb (i + 1) n) (Some (get_or xs (i + 1) 0)) None;
 }

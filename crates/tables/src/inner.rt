@@ -1,18 +1,14 @@
 // What the calls share: work on lent thresholds and offsets, of which the first n count.
-ghost use Rattle.std.specs.Prelude.{◌≡◌, true, cond, [], ◌+◌, ◌-◌, ◌≤◌, ◌<◌, min, leb, eqb, ltb, length, get_or};
-ghost use Rattle.refusals.specs.Outcome.{answered, changed};
+ghost use Rattle.std.specs.Prelude.{◌≡◌, true, cond, [], ◌+◌, ◌-◌, ◌≤◌, ◌<◌, min, leb, eqb, ltb, length, get_or, None, Some};
+ghost use Rattle.refusals.specs.Outcome.{answered, changed, outcome_in};
 ghost use Rattle.tables.specs.Entries.{offset_refusal, step_refusal, first_refusal, join_refusal, lookup, valid, neighbours, day};
 ghost use Rattle.tables.specs.Entries.{a_day_on, regular};
 ghost use Rattle.tables.specs.Slots.{slot_at, slots, valid_slots, of_valid_slots, joined_to, table_of};
 ghost use Rattle.tables.specs.Expiry.{stale_at, dated};
 ghost use Rattle.tables.specs.Search.{Rises, AtOrBelow};
-ghost use Rattle.tables.specs.declared.Threshold.TheVariants as next;
-ghost use Rattle.tables.specs.Answers.{taken_in, lookup_in, dated_offset_in};
+ghost use Rattle.tables.specs.Answers.{taken_in, dated_in};
 
-use crate::{
-    DatedOffset, LeapEntry, LeapTable, Lookup, LookupAnswer, NO_EXPIRY, OffsetAnswer, Place,
-    RUNTIME_CAPACITY, Taken, Threshold,
-};
+use crate::{Dated, LeapEntry, LeapTable, Lookup, NO_EXPIRY, RUNTIME_CAPACITY};
 use refusals::Refusal;
 
 // The largest offset, after which no entry can follow.
@@ -37,26 +33,26 @@ pub fn slot<'a>(thresholds: &'a [u64], offsets: &'a [i32], i: usize) -> LeapEntr
 }
 
 // Whether an offset can follow another.
-pub fn offset_step(before: i32, next: i32) -> Taken
+pub fn offset_step(before: i32, next: i32) -> Result<(), Refusal>
     ensures { taken_in result ≡ offset_refusal before next }
 {
     if before == LARGEST_OFFSET {
-        return Taken::Refused(Refusal::OffsetOverflow);
+        return Err(Refusal::OffsetOverflow);
     }
     let one_more = before + 1;
     if next == one_more {
-        Taken::Done
+        Ok(())
     } else {
-        Taken::Refused(Refusal::NonUnitIncrement)
+        Err(Refusal::NonUnitIncrement)
     }
 }
 
 // Whether an entry can follow another.
-pub fn step(before: LeapEntry, next: LeapEntry) -> Taken
+pub fn step(before: LeapEntry, next: LeapEntry) -> Result<(), Refusal>
     ensures { taken_in result ≡ step_refusal before next }
 {
     if next.tai_nanos <= before.tai_nanos {
-        return Taken::Refused(Refusal::NotStrictlyAscending);
+        return Err(Refusal::NotStrictlyAscending);
     }
     let offset = before.tai_minus_utc;
     let given = next.tai_minus_utc;
@@ -64,7 +60,7 @@ pub fn step(before: LeapEntry, next: LeapEntry) -> Taken
 }
 
 // The first refusal of an entry by the one before it. There is none exactly if the entries are valid.
-pub fn first_refusal<'a>(thresholds: &'a [u64], offsets: &'a [i32], n: usize) -> Taken
+pub fn first_refusal<'a>(thresholds: &'a [u64], offsets: &'a [i32], n: usize) -> Result<(), Refusal>
     requires n_in_bounds { n ≤ length thresholds.now }
     requires n_in_bounds_2 { n ≤ length offsets.now }
     ensures first { taken_in result ≡ first_refusal (slots thresholds.now offsets.now n) }
@@ -74,12 +70,10 @@ pub fn first_refusal<'a>(thresholds: &'a [u64], offsets: &'a [i32], n: usize) ->
     while i < n {
         let before = slot(thresholds, offsets, i - 1);
         let next = slot(thresholds, offsets, i);
-        if let Taken::Refused(why) = step(before, next) {
-            return Taken::Refused(why);
-        }
+        step(before, next)?;
         i += 1;
     }
-    Taken::Done
+    Ok(())
 }
 
 // Whether the first n slots are those of a valid table.
@@ -89,10 +83,7 @@ pub fn is_valid<'a>(thresholds: &'a [u64; 64], offsets: &'a [i32; 64], n: usize)
     if RUNTIME_CAPACITY < n {
         return false;
     }
-    match first_refusal(thresholds, offsets, n) {
-        Taken::Done => true,
-        Taken::Refused(_) => false,
-    }
+    first_refusal(thresholds, offsets, n).is_ok()
 }
 
 // Whether a threshold lies a day or more after the one before.
@@ -175,21 +166,21 @@ pub fn told_of_none() -> Lookup
 {
     Lookup {
         offset: OFFSET_OF_NO_ENTRY,
-        place: Place::Nothing,
-        next: Threshold::Nothing,
+        place: None,
+        next: None,
     }
 }
 
 // The threshold in the slot after another, if that is among the first n.
-fn threshold_after(thresholds: &[u64], n: usize, place: usize) -> Threshold
+fn threshold_after(thresholds: &[u64], n: usize, place: usize) -> Option<u64>
     requires n_in_bounds { n ≤ length thresholds.now }
     requires place_lt_n { place < n }
-    ensures { result ≡ cond (ltb (place + 1) n) (next.At (get_or thresholds.now (place + 1) 0)) next.Nothing }
+    ensures { result ≡ cond (ltb (place + 1) n) (Some (get_or thresholds.now (place + 1) 0)) None }
 {
     if place + 1 < n {
-        Threshold::At(thresholds[place + 1])
+        Some(thresholds[place + 1])
     } else {
-        Threshold::Nothing
+        None
     }
 }
 
@@ -206,7 +197,7 @@ pub fn look_up<'a>(thresholds: &'a [u64], offsets: &'a [i32], n: usize, tai: u64
     let place = place_in_force(count_at_or_below(thresholds, n, tai));
     Lookup {
         offset: offsets[place],
-        place: Place::At(place),
+        place: Some(place),
         next: threshold_after(thresholds, n, place),
     }
 }
@@ -217,15 +208,15 @@ pub fn checked_look_up<'a>(
     offsets: &'a [i32; 64],
     n: usize,
     tai: u64,
-) -> LookupAnswer
-    ensures { lookup_in result ≡
+) -> Result<Lookup, Refusal>
+    ensures { outcome_in result ≡
         of_valid_slots thresholds.now offsets.now n
         (answered (lookup (slots thresholds.now offsets.now n) tai)) }
 {
     if is_valid(thresholds, offsets, n) {
-        LookupAnswer::Told(look_up(thresholds, offsets, n, tai))
+        Ok(look_up(thresholds, offsets, n, tai))
     } else {
-        LookupAnswer::Refused(Refusal::BadTable)
+        Err(Refusal::BadTable)
     }
 }
 
@@ -237,32 +228,28 @@ pub fn is_stale(expiry: u64, tai: u64) -> bool
 }
 
 // The offset that a lookup at a TAI reading tells, by a table with this expiry. A refusal is never stale.
-pub fn dated_offset_in(found: LookupAnswer, expiry: u64, tai: u64) -> DatedOffset
-    ensures { dated_offset_in result ≡ dated (stale_at expiry tai) (changed (λ l. l.offset) (lookup_in found)) }
+pub fn dated_offset_in(found: Result<Lookup, Refusal>, expiry: u64, tai: u64) -> Dated<i32>
+    ensures { dated_in result ≡ dated (stale_at expiry tai) (changed (λ l. l.offset) (outcome_in found)) }
 {
-    match found {
-        LookupAnswer::Told(lookup) => DatedOffset {
-            answer: OffsetAnswer::Offset(lookup.offset),
-            stale: is_stale(expiry, tai),
-        },
-        LookupAnswer::Refused(why) => DatedOffset {
-            answer: OffsetAnswer::Refused(why),
-            stale: false,
-        },
-    }
+    Dated::new(found.map(|lookup| lookup.offset), is_stale(expiry, tai))
 }
 
 // Whether an entry can be joined to the first n.
-pub fn joins<'a>(thresholds: &'a [u64], offsets: &'a [i32], n: usize, entry: LeapEntry) -> Taken
+pub fn joins<'a>(
+    thresholds: &'a [u64],
+    offsets: &'a [i32],
+    n: usize,
+    entry: LeapEntry,
+) -> Result<(), Refusal>
     requires n_in_bounds { n ≤ length thresholds.now }
     requires n_in_bounds_2 { n ≤ length offsets.now }
     ensures { taken_in result ≡ join_refusal (slots thresholds.now offsets.now n) entry }
 {
     if n == 0 {
-        return Taken::Done;
+        return Ok(());
     }
     if RUNTIME_CAPACITY <= n {
-        return Taken::Refused(Refusal::BufferFull);
+        return Err(Refusal::BufferFull);
     }
     step(slot(thresholds, offsets, n - 1), entry)
 }
@@ -302,10 +289,4 @@ pub fn table_of<'a>(thresholds: &'a [u64], offsets: &'a [i32], n: usize) -> Leap
         len: n,
         expiry: NO_EXPIRY,
     }
-}
-
-pub fn shorter(a: usize, b: usize) -> usize
-    ensures { result ≡ min a b }
-{
-    if a < b { a } else { b }
 }

@@ -6,7 +6,10 @@ pub mod inner;
 pub mod table;
 
 ghost use Rattle.std.specs.Prelude.{◌≡◌};
+ghost use Rattle.refusals.specs.Outcome.{outcome_in};
+ghost use Rattle.tables.specs.Answers.{dated_in};
 ghost use Rattle.tables.specs.Entries.{entry};
+ghost use Rattle.tables.specs.Expiry.{dated};
 
 use counts::units::LARGEST_COUNT;
 use refusals::Refusal;
@@ -45,60 +48,12 @@ pub struct LeapTable {
     pub expiry: u64,
 }
 
-// Whether entries were taken, or why not.
-#[derive(Clone, Copy)]
-pub enum Taken {
-    Done,
-    Refused(Refusal),
-}
-
-// The answer, and the table afterwards.
+// Whether what was given was taken, and the table afterwards: on a refusal too there is one, the table as it was or the
+// empty one.
 #[derive(Clone, Copy)]
 pub struct TableAnswer {
-    pub answer: Taken,
+    pub answer: Result<(), Refusal>,
     pub table: LeapTable,
-}
-
-#[derive(Clone, Copy)]
-pub enum LengthAnswer {
-    Length(usize),
-    Refused(Refusal),
-}
-
-#[derive(Clone, Copy)]
-pub enum EmptyAnswer {
-    Empty(bool),
-    Refused(Refusal),
-}
-
-// The entry at a place, or nothing past the last one.
-#[derive(Clone, Copy)]
-pub enum EntryAnswer {
-    Entry(LeapEntry),
-    Nothing,
-    Refused(Refusal),
-}
-
-// A TAI count, that of the last event or of the expiry, or nothing.
-#[derive(Clone, Copy)]
-pub enum UpdateAnswer {
-    At(Tai),
-    Nothing,
-    Refused(Refusal),
-}
-
-// The place of an entry, counted from 0, or nothing.
-#[derive(Clone, Copy)]
-pub enum Place {
-    At(usize),
-    Nothing,
-}
-
-// A threshold, or nothing.
-#[derive(Clone, Copy)]
-pub enum Threshold {
-    At(u64),
-    Nothing,
 }
 
 // What a lookup tells of the entry in force at a TAI reading. In a table with no entry it is 19, and nothing.
@@ -106,27 +61,33 @@ pub enum Threshold {
 pub struct Lookup {
     // TAI minus UTC in seconds
     pub offset: i32,
-    pub place: Place,
+    // the place of the entry, counted from 0
+    pub place: Option<usize>,
     // the threshold of the entry after it
-    pub next: Threshold,
+    pub next: Option<u64>,
 }
 
+// An answer by a table, and whether the table is stale where it was looked up last.
 #[derive(Clone, Copy)]
-pub enum LookupAnswer {
-    Told(Lookup),
-    Refused(Refusal),
-}
-
-// TAI minus UTC in seconds.
-#[derive(Clone, Copy)]
-pub enum OffsetAnswer {
-    Offset(i32),
-    Refused(Refusal),
-}
-
-// The offset in force at a TAI reading, and whether the table is stale there.
-#[derive(Clone, Copy)]
-pub struct DatedOffset {
-    pub answer: OffsetAnswer,
+pub struct Dated<T> {
+    pub answer: Result<T, Refusal>,
     pub stale: bool,
+}
+
+impl<T> Dated<T> {
+    // An answer by a table that is stale or not. A refusal never is.
+    pub fn new(answer: Result<T, Refusal>, stale: bool) -> Self
+        ensures { dated_in result ≡ dated stale (outcome_in answer) }
+    {
+        match answer {
+            Ok(value) => Dated {
+                answer: Ok(value),
+                stale,
+            },
+            Err(why) => Dated {
+                answer: Err(why),
+                stale: false,
+            },
+        }
+    }
 }

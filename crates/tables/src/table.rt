@@ -2,16 +2,13 @@
 ghost use Rattle.std.specs.Prelude.{◌≡◌, [], eqb, length};
 ghost use Rattle.std.proofs.Math.ListN.{get_elem?};
 ghost use Rattle.refusals.specs.Number.{number_of};
-ghost use Rattle.refusals.specs.Outcome.{answered};
+ghost use Rattle.refusals.specs.Outcome.{answered, outcome_in};
 ghost use Rattle.tables.specs.Entries.{offset_at, current_offset, last_update};
 ghost use Rattle.tables.specs.Slots.{paired, entries_of, of_valid, table_of, extended, built};
 ghost use Rattle.tables.specs.Expiry.{by_table, expiry_in, expiring};
-ghost use Rattle.tables.specs.Answers.{table_answer_in, length_in, empty_in, entry_in, update_in, offset_in, dated_offset_in};
+ghost use Rattle.tables.specs.Answers.{table_answer_in, entry_in, update_in, dated_in};
 
-use crate::{
-    DatedOffset, EmptyAnswer, EntryAnswer, LeapEntry, LeapTable, LengthAnswer, NO_EXPIRY,
-    OffsetAnswer, RUNTIME_CAPACITY, TableAnswer, Taken, UpdateAnswer, inner,
-};
+use crate::{Dated, LeapEntry, LeapTable, NO_EXPIRY, RUNTIME_CAPACITY, TableAnswer, inner};
 use refusals::Refusal;
 use scales::tai::Tai;
 
@@ -32,7 +29,7 @@ impl LeapTable {
     pub fn from_lists<'a>(thresholds: &'a [u64], offsets: &'a [i32]) -> TableAnswer
         ensures { table_answer_in result ≡ built (paired thresholds.now offsets.now) }
     {
-        let n = inner::shorter(thresholds.len(), offsets.len());
+        let n = thresholds.len().min(offsets.len());
         if n == 0 {
             return unbuilt(Refusal::EmptyTable);
         }
@@ -40,11 +37,8 @@ impl LeapTable {
             return unbuilt(Refusal::BufferFull);
         }
         match inner::first_refusal(thresholds, offsets, n) {
-            Taken::Refused(why) => unbuilt(why),
-            Taken::Done => TableAnswer {
-                answer: Taken::Done,
-                table: inner::table_of(thresholds, offsets, n),
-            },
+            Ok(()) => done(inner::table_of(thresholds, offsets, n)),
+            Err(why) => unbuilt(why),
         }
     }
 
@@ -57,85 +51,77 @@ impl LeapTable {
             return refused(Refusal::BadTable, self);
         }
         match inner::joins(&self.thresholds, &self.offsets, n, entry) {
-            Taken::Refused(why) => refused(why, self),
-            Taken::Done => TableAnswer {
-                answer: Taken::Done,
-                table: inner::joined(self, entry),
-            },
+            Ok(()) => done(inner::joined(self, entry)),
+            Err(why) => refused(why, self),
         }
     }
 
     // The number of entries.
-    pub fn len(self) -> LengthAnswer
-        ensures { length_in result ≡ of_valid self (answered (length (entries_of self))) }
+    pub fn len(self) -> Result<usize, Refusal>
+        ensures { outcome_in result ≡ of_valid self (answered (length (entries_of self))) }
     {
         let n = self.len;
         if inner::is_valid(&self.thresholds, &self.offsets, n) {
-            LengthAnswer::Length(n)
+            Ok(n)
         } else {
-            LengthAnswer::Refused(Refusal::BadTable)
+            Err(Refusal::BadTable)
         }
     }
 
-    pub fn is_empty(self) -> EmptyAnswer
-        ensures { empty_in result ≡ of_valid self (answered (eqb (length (entries_of self)) 0)) }
+    pub fn is_empty(self) -> Result<bool, Refusal>
+        ensures { outcome_in result ≡ of_valid self (answered (eqb (length (entries_of self)) 0)) }
     {
-        let n = self.len;
-        if inner::is_valid(&self.thresholds, &self.offsets, n) {
-            EmptyAnswer::Empty(n == 0)
-        } else {
-            EmptyAnswer::Refused(Refusal::BadTable)
-        }
+        Ok(self.len()? == 0)
     }
 
     // The entry at a place, counted from 0.
-    pub fn entry_at(self, place: usize) -> EntryAnswer
+    pub fn entry_at(self, place: usize) -> Result<Option<LeapEntry>, Refusal>
         ensures { entry_in result ≡ of_valid self (answered (get_elem? (entries_of self) place)) }
     {
         let n = self.len;
         if !inner::is_valid(&self.thresholds, &self.offsets, n) {
-            return EntryAnswer::Refused(Refusal::BadTable);
+            return Err(Refusal::BadTable);
         }
         if place < n {
-            EntryAnswer::Entry(inner::slot(&self.thresholds, &self.offsets, place))
+            Ok(Some(inner::slot(&self.thresholds, &self.offsets, place)))
         } else {
-            EntryAnswer::Nothing
+            Ok(None)
         }
     }
 
     // The threshold of the last event: nothing where there is at most the first entry.
-    pub fn last_update(self) -> UpdateAnswer
+    pub fn last_update(self) -> Result<Option<Tai>, Refusal>
         ensures { update_in result ≡ of_valid self (answered (last_update (entries_of self))) }
     {
         let n = self.len;
         if !inner::is_valid(&self.thresholds, &self.offsets, n) {
-            return UpdateAnswer::Refused(Refusal::BadTable);
+            return Err(Refusal::BadTable);
         }
         if 1 < n {
-            UpdateAnswer::At(Tai(self.thresholds[n - 1]))
+            Ok(Some(Tai(self.thresholds[n - 1])))
         } else {
-            UpdateAnswer::Nothing
+            Ok(None)
         }
     }
 
     // The offset of the last entry, or 19.
-    pub fn current_tai_minus_utc(self) -> OffsetAnswer
-        ensures { offset_in result ≡ of_valid self (answered (current_offset (entries_of self))) }
+    pub fn current_tai_minus_utc(self) -> Result<i32, Refusal>
+        ensures { outcome_in result ≡ of_valid self (answered (current_offset (entries_of self))) }
     {
         let n = self.len;
         if !inner::is_valid(&self.thresholds, &self.offsets, n) {
-            return OffsetAnswer::Refused(Refusal::BadTable);
+            return Err(Refusal::BadTable);
         }
         if n == 0 {
-            OffsetAnswer::Offset(inner::OFFSET_OF_NO_ENTRY)
+            Ok(inner::OFFSET_OF_NO_ENTRY)
         } else {
-            OffsetAnswer::Offset(self.offsets[n - 1])
+            Ok(self.offsets[n - 1])
         }
     }
 
     // The offset in force at a TAI reading, and whether the table is stale there.
-    pub fn tai_minus_utc_at(self, tai: Tai) -> DatedOffset
-        ensures { dated_offset_in result ≡ by_table self tai.0 (answered (offset_at (entries_of self) tai.0)) }
+    pub fn tai_minus_utc_at(self, tai: Tai) -> Dated<i32>
+        ensures { dated_in result ≡ by_table self tai.0 (answered (offset_at (entries_of self) tai.0)) }
     {
         let n = self.len;
         let found = inner::checked_look_up(&self.thresholds, &self.offsets, n, tai.0);
@@ -143,17 +129,17 @@ impl LeapTable {
     }
 
     // The TAI reading from which on the table is stale, or nothing.
-    pub fn expiry(self) -> UpdateAnswer
+    pub fn expiry(self) -> Result<Option<Tai>, Refusal>
         ensures { update_in result ≡ of_valid self (answered (expiry_in self)) }
     {
         let n = self.len;
         if !inner::is_valid(&self.thresholds, &self.offsets, n) {
-            return UpdateAnswer::Refused(Refusal::BadTable);
+            return Err(Refusal::BadTable);
         }
         if self.expiry == NO_EXPIRY {
-            UpdateAnswer::Nothing
+            Ok(None)
         } else {
-            UpdateAnswer::At(Tai(self.expiry))
+            Ok(Some(Tai(self.expiry)))
         }
     }
 
@@ -167,10 +153,16 @@ impl LeapTable {
         }
         let mut table = self;
         table.expiry = expiry.0;
-        TableAnswer {
-            answer: Taken::Done,
-            table,
-        }
+        done(table)
+    }
+}
+
+fn done(table: LeapTable) -> TableAnswer
+    ensures { table_answer_in result ≡ (0, table) }
+{
+    TableAnswer {
+        answer: Ok(()),
+        table,
     }
 }
 
@@ -178,8 +170,10 @@ impl LeapTable {
 fn refused(why: Refusal, table: LeapTable) -> TableAnswer
     ensures { table_answer_in result ≡ (number_of why, table) }
 {
-    let answer = Taken::Refused(why);
-    TableAnswer { answer, table }
+    TableAnswer {
+        answer: Err(why),
+        table,
+    }
 }
 
 // A refused building: the table with no entry.

@@ -2,8 +2,7 @@
 // second after an event on, so that a repeated count is the first of two: 19, and one more for each event that a UTC
 // count is a second past.
 ghost use Rattle.std.specs.Prelude.{◌≡◌, ◌≤◌, ◌<◌};
-ghost use Rattle.refusals.specs.Outcome.{then};
-ghost use Rattle.counts.specs.Answers.{count_in};
+ghost use Rattle.refusals.specs.Outcome.{then, outcome_in};
 ghost use Rattle.tables.specs.Entries.{lookup};
 ghost use Rattle.conversions.specs.Conversions.{last_reading, utc_to_gps};
 ghost use Rattle.builtin.specs.Builtin.{builtin};
@@ -11,7 +10,6 @@ ghost use Rattle.builtin.specs.Reached.{count_reached, past_events, past_at};
 
 use crate::inner::lookup;
 use conversions::inner;
-use counts::CountAnswer;
 use counts::units::NANOS_PER_SECOND;
 use scales::gps_tai::TAI_MINUS_GPS_NS;
 use tables::Lookup;
@@ -44,11 +42,11 @@ fn look_up_last(utc: u64) -> Lookup
     lookup::entry_told(events_past(utc))
 }
 
-pub fn gps_from_utc(utc: CountAnswer) -> CountAnswer
-    ensures { count_in result ≡ then (count_in utc) (utc_to_gps builtin) }
+pub fn gps_from_utc(utc: Result<u64, Refusal>) -> Result<u64, Refusal>
+    ensures { outcome_in result ≡ then (outcome_in utc) (utc_to_gps builtin) }
 {
     match utc {
-        CountAnswer::Count(count) => inner::gps_from_lookup(look_up_last(count), utc),
-        CountAnswer::Refused(why) => CountAnswer::Refused(why),
+        Ok(count) => inner::gps_from_lookup(look_up_last(count), utc),
+        Err(why) => Err(why),
     }
 }

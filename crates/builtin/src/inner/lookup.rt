@@ -2,16 +2,14 @@
 // for each event at or before the reading. The reading's bucket tells how many events are before the bucket, and one
 // comparison whether the event in it, if there is one, is reached: two tables are read, and nothing branches.
 ghost use Rattle.std.specs.Prelude.{◌≡◌, cond, ◌≤◌, leb};
-ghost use Rattle.refusals.specs.Outcome.{then};
-ghost use Rattle.counts.specs.Answers.{count_in};
+ghost use Rattle.refusals.specs.Outcome.{then, outcome_in};
 ghost use Rattle.tables.specs.Entries.{lookup};
 ghost use Rattle.conversions.specs.Conversions.{gps_to_utc};
 ghost use Rattle.builtin.specs.Builtin.{builtin};
 ghost use Rattle.builtin.specs.Reached.{InBucket, events_before, event_at, event_after, told_at};
 
 use conversions::inner;
-use counts::CountAnswer;
-use tables::{Lookup, LookupAnswer, Place, Threshold};
+use tables::Lookup;
 
 // The threshold of each event: (its Unix second − 315,964,800 + the offset that begins) × 10⁹.
 pub const JULY_1981: u64 = 46_828_820_000_000_000;
@@ -157,14 +155,14 @@ pub fn event_threshold(event: u64) -> u64
 }
 
 // The threshold after as many events.
-fn threshold_after(events: u64) -> Threshold
+fn threshold_after(events: u64) -> Option<u64>
     ensures { result ≡ event_after events }
 {
     let threshold = event_threshold(events);
     if events < EVENTS {
-        Threshold::At(threshold)
+        Some(threshold)
     } else {
-        Threshold::Nothing
+        None
     }
 }
 
@@ -186,22 +184,22 @@ pub fn entry_told(event: u64) -> Lookup
 {
     Lookup {
         offset: (19 + event) as i32,
-        place: Place::At(event as usize),
+        place: Some(event as usize),
         next: threshold_after(event),
     }
 }
 
 // A refused step is told apart before the lookup. After it, the compiler would test for one in each arm of `events_before`,
 // and make jumps of the table.
-pub fn utc_from_gps(gps: CountAnswer) -> CountAnswer
-    ensures { count_in result ≡ then (count_in gps) (gps_to_utc builtin) }
+pub fn utc_from_gps(gps: Result<u64, Refusal>) -> Result<u64, Refusal>
+    ensures { outcome_in result ≡ then (outcome_in gps) (gps_to_utc builtin) }
 {
     let tai = inner::tai_of(gps);
     match tai {
-        CountAnswer::Count(reading) => {
+        Ok(reading) => {
             let told = entry_told(event_at(reading));
-            inner::utc_from_lookup(LookupAnswer::Told(told), tai)
+            inner::utc_from_lookup(Ok(told), tai)
         }
-        CountAnswer::Refused(why) => CountAnswer::Refused(why),
+        Err(why) => Err(why),
     }
 }

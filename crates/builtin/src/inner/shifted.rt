@@ -1,8 +1,7 @@
 // A scale that is behind GPS by a fixed number of nanoseconds, to UTC and back by the built-in table.
 ghost use Rattle.std.specs.Prelude.{◌≡◌};
-ghost use Rattle.refusals.specs.Outcome.{then};
+ghost use Rattle.refusals.specs.Outcome.{then, outcome_in};
 ghost use Rattle.counts.specs.Exact.{down};
-ghost use Rattle.counts.specs.Answers.{count_in};
 ghost use Rattle.conversions.specs.Shifted.{shifted_to_utc, later_of, utc_to_shifted, glonass_to_shifted};
 ghost use Rattle.builtin.specs.Builtin.{builtin};
 
@@ -11,60 +10,60 @@ use crate::inner::by_utc::gps_from_utc;
 use crate::inner::lookup::utc_from_gps;
 use conversions::inner::later::later_of;
 use conversions::inner::steps;
-use counts::{CountAnswer, sums};
+use counts::sums;
 
-pub fn utc_from_shifted(count: CountAnswer, behind: u64) -> CountAnswer
-    ensures { count_in result ≡ then (count_in count) (shifted_to_utc behind builtin) }
+pub fn utc_from_shifted(count: Result<u64, Refusal>, behind: u64) -> Result<u64, Refusal>
+    ensures { outcome_in result ≡ then (outcome_in count) (shifted_to_utc behind builtin) }
 {
     utc_from_gps(steps::up(count, behind))
 }
 
 // The count by the later of two GPS counts that share a UTC count.
-fn shifted_by_later(gps: u64, behind: u64) -> CountAnswer
-    ensures { count_in result ≡ then (later_of builtin gps) (down behind) }
+fn shifted_by_later(gps: u64, behind: u64) -> Result<u64, Refusal>
+    ensures { outcome_in result ≡ then (later_of builtin gps) (down behind) }
 {
     steps::down(later_of(gps, from_builtin()), behind)
 }
 
 // The same answer, copied part by part. The compiler copies an answer in memory as a whole, bytes between its parts included,
 // and for an answer that has just been put there in parts the processor then waits.
-fn by_parts(answer: CountAnswer) -> CountAnswer
+fn by_parts(answer: Result<u64, Refusal>) -> Result<u64, Refusal>
     ensures { result ≡ answer }
 {
     match answer {
-        CountAnswer::Count(count) => CountAnswer::Count(count),
-        CountAnswer::Refused(why) => CountAnswer::Refused(why),
+        Ok(count) => Ok(count),
+        Err(why) => Err(why),
     }
 }
 
-pub fn shifted_from_utc(utc: CountAnswer, behind: u64) -> CountAnswer
-    ensures { count_in result ≡ then (count_in utc) (utc_to_shifted behind builtin) }
+pub fn shifted_from_utc(utc: Result<u64, Refusal>, behind: u64) -> Result<u64, Refusal>
+    ensures { outcome_in result ≡ then (outcome_in utc) (utc_to_shifted behind builtin) }
 {
     match gps_from_utc(utc) {
-        CountAnswer::Count(gps) => {
+        Ok(gps) => {
             if gps < behind {
                 by_parts(shifted_by_later(gps, behind))
             } else {
                 sums::minus(gps, behind)
             }
         }
-        CountAnswer::Refused(why) => CountAnswer::Refused(why),
+        Err(why) => Err(why),
     }
 }
 
 // The same from GLONASS, by way of UTC. It is written out: what is rare, and taken by two functions, the compiler leaves
 // out of line.
-pub fn shifted_from_glonass(glonass: CountAnswer, behind: u64) -> CountAnswer
-    ensures { count_in result ≡ then (count_in glonass) (glonass_to_shifted behind builtin) }
+pub fn shifted_from_glonass(glonass: Result<u64, Refusal>, behind: u64) -> Result<u64, Refusal>
+    ensures { outcome_in result ≡ then (outcome_in glonass) (glonass_to_shifted behind builtin) }
 {
     match gps_from_utc(steps::utc_from_glonass(glonass)) {
-        CountAnswer::Count(gps) => {
+        Ok(gps) => {
             if gps < behind {
                 by_parts(shifted_by_later(gps, behind))
             } else {
                 sums::minus(gps, behind)
             }
         }
-        CountAnswer::Refused(why) => CountAnswer::Refused(why),
+        Err(why) => Err(why),
     }
 }

@@ -1,16 +1,7 @@
--- Written by tools/write-scales from its template in tools/templates.
 -- BeiDou to UTC and GLONASS and back: each call leaves one answer for each input.
-use mathlib.Core.Path.{◌≡◌}
 use Rattle.refusals.proofs.OneAnswer.{OneAnswer, viewed}
-use Rattle.scales.proofs.Tells.{beidou_tells}
-use Rattle.conversions.specs.DatedShifted.{dated_beidou_in}
-use Rattle.conversions.specs.declared.beidou.DatedBeidou.{DatedBeidou}
-use Rattle.conversions.proofs.Tells.{dated_utc_tells, dated_glonass_tells}
+use Rattle.conversions.proofs.Tells.{dated_utc_tells, dated_glonass_tells, dated_beidou_tells}
 use Rattle.conversions.proofs.beidou
-
-dated_beidou_tells : (x y : DatedBeidou) → dated_beidou_in x ≡ dated_beidou_in y → x ≡ y
-dated_beidou_tells x y e =
-    λ i. record { answer = beidou_tells x.answer y.answer (λ j. (e j).0) i; stale = (e i).1 }
 
 pub beidou_to_utc : OneAnswer beidou.beidou_to_utc.Reads.Post
 beidou_to_utc κ a x y e f p q = viewed dated_utc_tells x y p q

@@ -1,29 +1,26 @@
 // GPS to UTC and UTC to GPS by a table that is held by value, and the same of a scale that is behind GPS by a fixed
 // number of nanoseconds. An invalid table is refused with 8 before anything else.
 ghost use Rattle.std.specs.Prelude.{◌≡◌, true, ◌+◌};
-ghost use Rattle.refusals.specs.Outcome.{value_in, then};
+ghost use Rattle.tables.specs.Answers.{dated_in};
+ghost use Rattle.refusals.specs.Outcome.{value_in, then, outcome_in};
 ghost use Rattle.counts.specs.Exact.{down};
 ghost use Rattle.counts.specs.Units.{second};
-ghost use Rattle.counts.specs.Answers.{count_in};
 ghost use Rattle.scales.specs.Scales.{tai_minus_gps};
 ghost use Rattle.tables.specs.Slots.{entries_of, valid_table};
 ghost use Rattle.tables.specs.Expiry.{stale_at, dated, by_table};
-ghost use Rattle.conversions.specs.Answers.{dated_in};
 ghost use Rattle.conversions.specs.Conversions.{gps_to_utc, last_reading, utc_to_gps};
 ghost use Rattle.conversions.specs.Shifted.{later_of, shifted_to_utc, utc_to_shifted, shifted_reading};
 
-use crate::inner::dated::{DatedCount, date};
+use crate::inner::dated::{Dated, date};
 use crate::inner::later::later_of;
-use crate::inner::{
-    first_reading_of, gps_from_lookup, last_reading_of, reading_of, steps, tai_of, utc_from_lookup,
-};
-use counts::{CountAnswer, sums};
+use crate::inner::{first_reading_of, gps_from_lookup, last_reading_of, reading_of, steps, tai_of, utc_from_lookup};
+use counts::sums;
 use tables::inner::{checked_look_up, is_stale, look_up};
-use tables::{LeapTable, LookupAnswer};
+use tables::LeapTable;
 
-pub fn utc_from_gps(gps: CountAnswer, table: LeapTable) -> DatedCount
+pub fn utc_from_gps(gps: Result<u64, Refusal>, table: LeapTable) -> Dated<u64>
     ensures { dated_in result ≡
-        by_table table (value_in 0 (count_in gps) + tai_minus_gps) (then (count_in gps) (gps_to_utc (entries_of table))) }
+        by_table table (value_in 0 (outcome_in gps) + tai_minus_gps) (then (outcome_in gps) (gps_to_utc (entries_of table))) }
 {
     let n = table.len;
     let tai = tai_of(gps);
@@ -33,34 +30,34 @@ pub fn utc_from_gps(gps: CountAnswer, table: LeapTable) -> DatedCount
     date(utc_from_lookup(found, tai), stale)
 }
 
-pub fn gps_from_utc(utc: CountAnswer, table: LeapTable) -> DatedCount
+pub fn gps_from_utc(utc: Result<u64, Refusal>, table: LeapTable) -> Dated<u64>
     ensures { dated_in result ≡
-        by_table table (last_reading (entries_of table) (value_in 0 (count_in utc)))
-        (then (count_in utc) (utc_to_gps (entries_of table))) }
+        by_table table (last_reading (entries_of table) (value_in 0 (outcome_in utc)))
+        (then (outcome_in utc) (utc_to_gps (entries_of table))) }
 {
     let n = table.len;
     let a = first_reading_of(utc);
     match checked_look_up(&table.thresholds, &table.offsets, n, a) {
-        LookupAnswer::Told(first) => {
+        Ok(first) => {
             let b = last_reading_of(utc, first, a);
             let found = look_up(&table.thresholds, &table.offsets, n, b);
             let stale = is_stale(table.expiry, b);
             date(gps_from_lookup(found, utc), stale)
         }
-        LookupAnswer::Refused(why) => date(CountAnswer::Refused(why), false),
+        Err(why) => date(Err(why), false),
     }
 }
 
-pub fn utc_from_shifted(count: CountAnswer, table: LeapTable, behind: u64) -> DatedCount
+pub fn utc_from_shifted(count: Result<u64, Refusal>, table: LeapTable, behind: u64) -> Dated<u64>
     ensures { dated_in result ≡
-        by_table table (value_in 0 (count_in count) + behind + tai_minus_gps)
-        (then (count_in count) (shifted_to_utc behind (entries_of table))) }
+        by_table table (value_in 0 (outcome_in count) + behind + tai_minus_gps)
+        (then (outcome_in count) (shifted_to_utc behind (entries_of table))) }
 {
     utc_from_gps(steps::up(count, behind), table)
 }
 
 // By the later of two GPS counts that share a UTC count; the TAI reading looked up last is its own.
-pub fn shifted_by_later(gps: u64, table: LeapTable, behind: u64) -> DatedCount
+pub fn shifted_by_later(gps: u64, table: LeapTable, behind: u64) -> Dated<u64>
     requires { valid_table table ≡ true }
     ensures { dated_in result ≡
         dated (stale_at table.expiry (gps + second + tai_minus_gps))
@@ -71,21 +68,21 @@ pub fn shifted_by_later(gps: u64, table: LeapTable, behind: u64) -> DatedCount
     date(steps::down(later, behind), stale)
 }
 
-pub fn shifted_from_utc(utc: CountAnswer, table: LeapTable, behind: u64) -> DatedCount
+pub fn shifted_from_utc(utc: Result<u64, Refusal>, table: LeapTable, behind: u64) -> Dated<u64>
     ensures { dated_in result ≡
-        by_table table (shifted_reading behind (entries_of table) (value_in 0 (count_in utc)))
-        (then (count_in utc) (utc_to_shifted behind (entries_of table))) }
+        by_table table (shifted_reading behind (entries_of table) (value_in 0 (outcome_in utc)))
+        (then (outcome_in utc) (utc_to_shifted behind (entries_of table))) }
 {
     let found = gps_from_utc(utc, table);
     let first = found.answer;
     match first {
-        CountAnswer::Count(gps) => {
+        Ok(gps) => {
             if gps < behind {
                 shifted_by_later(gps, table, behind)
             } else {
                 date(sums::minus(gps, behind), found.stale)
             }
         }
-        CountAnswer::Refused(why) => date(CountAnswer::Refused(why), false),
+        Err(why) => date(Err(why), false),
     }
 }

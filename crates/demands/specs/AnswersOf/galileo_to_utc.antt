@@ -1,8 +1,10 @@
 -- Written by tools/write-scales from its template in tools/templates.
 -- `conversions::galileo::galileo_to_utc`: what its contract says of the answer.
-use Rattle.scales.specs.declared.utc.UtcAnswer.{UtcAnswer}
+use Rattle.std.specs.Prelude.{Result}
+use Rattle.refusals.specs.declared.Refusal.{Refusal}
 use Rattle.conversions.proofs.galileo.galileo_to_utc.Reads as call
 use Rattle.demands.specs.AnswersOf.{About, OfAnswer}
+use Rattle.scales.specs.declared.utc.Utc.{Utc}
 
-abbrev pub Post : About call.Post UtcAnswer
+abbrev pub Post : About call.Post (Result Utc Refusal)
 Post = OfAnswer call.Post (λ κ d. d.answer)

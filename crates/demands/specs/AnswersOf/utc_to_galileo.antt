@@ -1,8 +1,10 @@
 -- Written by tools/write-scales from its template in tools/templates.
 -- `conversions::galileo::utc_to_galileo`: what its contract says of the answer.
-use Rattle.scales.specs.declared.galileo.GalileoAnswer.{GalileoAnswer}
+use Rattle.std.specs.Prelude.{Result}
+use Rattle.refusals.specs.declared.Refusal.{Refusal}
 use Rattle.conversions.proofs.galileo.utc_to_galileo.Reads as call
 use Rattle.demands.specs.AnswersOf.{About, OfAnswer}
+use Rattle.scales.specs.declared.galileo.Galileo.{Galileo}
 
-abbrev pub Post : About call.Post GalileoAnswer
+abbrev pub Post : About call.Post (Result Galileo Refusal)
 Post = OfAnswer call.Post (λ κ d. d.answer)

@@ -18,11 +18,11 @@ pub loop-preserved : goal.loop-preserved
 loop-preserved g c = (
   search rules,
   search rules,
-  c.in-At-written.ensures.bound,
+  c.in-Some-written.ensures.bound,
   turn answers_lines (g.R.Read.remaining c.args.input.now) (g.R.Read.remaining c.loop.input)
       (g.R.Read.remaining c.read_on-read.new.input) (g.W.Write.contents c.args.output.now) (g.W.Write.contents c.loop.output)
       (g.W.Write.contents c.answer_and_write-written.new.output) c.loop.line c.answer_and_write-written.new.line
-      c.loop.block c.read_on-read.new.block c.loop.place c.in-At.next c.in-At-written.after
-      (c.loop.invariant.0 ∙ c.requires.line_len) c.loop.invariant.2.held c.loop.invariant.3 c.in-At.ensures.bytes
-      c.in-At-written.ensures.answers,
+      c.loop.block c.read_on-read.new.block c.loop.place c.in-Some.next c.in-Some-written.after
+      (c.loop.invariant.0 ∙ c.requires.line_len) c.loop.invariant.2.held c.loop.invariant.3 c.in-Some.ensures.bytes
+      c.in-Some-written.ensures.answers,
 )

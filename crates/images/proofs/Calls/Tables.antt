@@ -1,17 +1,17 @@
 -- Each call on a table as bytes leaves one answer for each input, and one image where it writes one.
+use Rattle.std.specs.Prelude.{Result}
 use mathlib.Core.Path.{◌≡◌, sym, ap, ◌∙◌}
 use mathlib.Core.List.{List}
 use Prim.Native.Nat.{ℕ}
+use Rattle.refusals.specs.declared.Refusal.{Refusal}
+use Rattle.refusals.proofs.Tells.{outcome_tells}
 use Rattle.refusals.proofs.OneAnswer.{OneAnswer, OneAnswerAndEnd, viewed}
-use Rattle.conversions.proofs.Tells.{dated_tells}
 use Rattle.tables.specs.Answers.{taken_in}
-use Rattle.tables.specs.declared.Taken.{Taken}
-use Rattle.tables.proofs.Tells.{taken_tells, extension_tells, length_tells, empty_tells, entry_tells, update_tells}
-use Rattle.tables.proofs.Tells.{offset_tells, dated_offset_tells}
+use Rattle.tables.proofs.Tells.{taken_tells, extension_tells, entry_tells, update_tells, dated_tells}
 use Rattle.images.proofs.table
 
 -- an answer and the bytes left, by one equation
-answer_and_bytes : {x y : Taken} {l m : List ℕ} {d : ℕ × List ℕ} → (taken_in x, l) ≡ d → (taken_in y, m) ≡ d
+answer_and_bytes : {x y : Result Unit Refusal} {l m : List ℕ} {d : ℕ × List ℕ} → (taken_in x, l) ≡ d → (taken_in y, m) ≡ d
     → (x ≡ y) × (l ≡ m)
 answer_and_bytes {x} {y} p q =
     let e = p ∙ sym q in
@@ -30,10 +30,10 @@ pub extend : OneAnswerAndEnd table.extend.Reads.Post (λ κ e. e.0.now)
 extend κ a x y e f p q = answer_and_bytes p q
 
 pub len : OneAnswer table.len.Reads.Post
-len κ a x y e f p q = viewed length_tells x y p q
+len κ a x y e f p q = viewed outcome_tells x y p q
 
 pub is_empty : OneAnswer table.is_empty.Reads.Post
-is_empty κ a x y e f p q = viewed empty_tells x y p q
+is_empty κ a x y e f p q = viewed outcome_tells x y p q
 
 pub entry_at : OneAnswer table.entry_at.Reads.Post
 entry_at κ a x y e f p q = viewed entry_tells x y p q
@@ -42,10 +42,10 @@ pub last_update_lem : OneAnswer table.last_update.Reads.Post
 last_update_lem κ a x y e f p q = viewed update_tells x y p q
 
 pub current_tai_minus_utc : OneAnswer table.current_tai_minus_utc.Reads.Post
-current_tai_minus_utc κ a x y e f p q = viewed offset_tells x y p q
+current_tai_minus_utc κ a x y e f p q = viewed outcome_tells x y p q
 
 pub tai_minus_utc_at : OneAnswer table.tai_minus_utc_at.Reads.Post
-tai_minus_utc_at κ a x y e f p q = viewed dated_offset_tells x y p q
+tai_minus_utc_at κ a x y e f p q = viewed dated_tells x y p q
 
 pub expiry : OneAnswer table.expiry.Reads.Post
 expiry κ a x y e f p q = viewed update_tells x y p q

@@ -1,11 +1,9 @@
 // The table in an image, tested and looked up where it stands: nothing is copied, and no slot past its length is read.
-ghost use Rattle.std.specs.Prelude.{◌≡◌, true, cond, ◌&&◌, [], ◌+◌, ◌≤◌, ◌<◌, eqb, ltb, length, get_or};
-ghost use Rattle.refusals.specs.Outcome.{answered};
+ghost use Rattle.std.specs.Prelude.{◌≡◌, true, cond, ◌&&◌, [], ◌+◌, ◌≤◌, ◌<◌, eqb, ltb, length, get_or, None, Some};
+ghost use Rattle.refusals.specs.Outcome.{answered, outcome_in};
 ghost use Rattle.tables.specs.Entries.{lookup, on_days};
 ghost use Rattle.tables.specs.Slots.{entries_of, valid_table};
 ghost use Rattle.tables.specs.Search.{Rises, AtOrBelow, slot_told};
-ghost use Rattle.tables.specs.declared.Threshold.TheVariants as next;
-ghost use Rattle.tables.specs.Answers.{lookup_in};
 ghost use Rattle.images.specs.Image.{image_bytes, sized, table_in, by_image};
 
 use crate::inner::IMAGE_BYTES;
@@ -13,23 +11,23 @@ use crate::inner::slots::{len, offset, threshold};
 use counts::units::NANOS_PER_SECOND;
 use refusals::Refusal;
 use tables::inner::{NANOS_PER_DAY, OFFSET_OF_NO_ENTRY, a_day_on, place_in_force, told_of_none};
-use tables::{Lookup, LookupAnswer, Place, RUNTIME_CAPACITY, Threshold};
+use tables::{Lookup, RUNTIME_CAPACITY};
 
 // The offset of a regular table's first entry.
 const FIRST_OFFSET: u64 = 19;
 
 // The threshold in the slot after another, if that is among the first n.
-fn threshold_after(image: &[u8], n: usize, place: usize) -> Threshold
+fn threshold_after(image: &[u8], n: usize, place: usize) -> Option<u64>
     requires image_len { length image.now ≡ image_bytes }
     requires n_bound { n ≤ 64 }
     requires place_bound { place < 64 }
     ensures { result ≡
-        cond (ltb (place + 1) n) (next.At (get_or (table_in image.now).thresholds (place + 1) 0)) next.Nothing }
+        cond (ltb (place + 1) n) (Some (get_or (table_in image.now).thresholds (place + 1) 0)) None }
 {
     if place + 1 < n {
-        Threshold::At(threshold(image, place + 1))
+        Some(threshold(image, place + 1))
     } else {
-        Threshold::Nothing
+        None
     }
 }
 
@@ -47,24 +45,24 @@ fn told(image: &[u8], n: usize, place: usize) -> Lookup
     }
     Lookup {
         offset: offset(image, place),
-        place: Place::At(place),
+        place: Some(place),
         next: threshold_after(image, n, place),
     }
 }
 
 // What is in force at a TAI reading, or 8: one pass tests the table and finds the place.
-pub fn checked_look_up(image: &[u8], tai: u64) -> LookupAnswer
-    ensures { lookup_in result ≡ by_image image.now (λ es. answered (lookup es tai)) }
+pub fn checked_look_up(image: &[u8], tai: u64) -> Result<Lookup, Refusal>
+    ensures { outcome_in result ≡ by_image image.now (λ es. answered (lookup es tai)) }
 {
     if image.len() != IMAGE_BYTES {
-        return LookupAnswer::Refused(Refusal::BadTable);
+        return Err(Refusal::BadTable);
     }
     let n = len(image);
     if RUNTIME_CAPACITY < n {
-        return LookupAnswer::Refused(Refusal::BadTable);
+        return Err(Refusal::BadTable);
     }
     if n == 0 {
-        return LookupAnswer::Told(told(image, n, 0));
+        return Ok(told(image, n, 0));
     }
     let mut before = threshold(image, 0);
     let mut one_more = offset(image, 0) as i64 + 1;
@@ -73,11 +71,11 @@ pub fn checked_look_up(image: &[u8], tai: u64) -> LookupAnswer
     while i < n {
         let next = threshold(image, i);
         if next <= before {
-            return LookupAnswer::Refused(Refusal::BadTable);
+            return Err(Refusal::BadTable);
         }
         let given = offset(image, i);
         if given as i64 != one_more {
-            return LookupAnswer::Refused(Refusal::BadTable);
+            return Err(Refusal::BadTable);
         }
         before = next;
         one_more += 1;
@@ -87,7 +85,7 @@ pub fn checked_look_up(image: &[u8], tai: u64) -> LookupAnswer
             place = here;
         }
     }
-    LookupAnswer::Told(told(image, n, place))
+    Ok(told(image, n, place))
 }
 
 // Whether these bytes are an image, and the table in it is valid.
@@ -95,8 +93,8 @@ pub fn is_valid(image: &[u8]) -> bool
     ensures { result ≡ sized image.now && valid_table (table_in image.now) }
 {
     match checked_look_up(image, 0) {
-        LookupAnswer::Told(_) => true,
-        LookupAnswer::Refused(_) => false,
+        Ok(_) => true,
+        Err(_) => false,
     }
 }
 

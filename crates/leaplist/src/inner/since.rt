@@ -8,12 +8,12 @@ ghost use Rattle.leaplist.specs.Since.{second_of, same_before, words_for, alike_
 ghost use Rattle.leaplist.specs.Writing.{PutsAt};
 
 use crate::inner::put::put_refusal;
-use alike::{Alike, AlikeAnswer};
+use alike::Alike;
 use civil::inner::fields_at;
 use counts::units::NANOS_PER_SECOND;
 use lines::inner::put::{put_bytes, put_refused};
 use refusals::Refusal;
-use tables::{LeapTable, Taken};
+use tables::LeapTable;
 use texts::inner::LINE_END;
 
 // The date and time of a UTC count in whole seconds: the first 19 of the form's 30 bytes.
@@ -86,12 +86,12 @@ fn put_alike(old: LeapTable, new: LeapTable, out: &mut [u8]) -> usize
 {
     let lacking = new.len < old.len;
     match alike::by_value::alike(old, new) {
-        AlikeAnswer::Told(told) => {
+        Ok(told) => {
             let end = put_told(out, told, lacking);
             out[end] = LINE_END;
             end + 1
         }
-        AlikeAnswer::Refused(refusal) => put_refused(refusal, out),
+        Err(refusal) => put_refused(refusal, out),
     }
 }
 
@@ -123,7 +123,7 @@ pub fn put_with_new(old: LeapTable, new: &[u8], out: &mut [u8]) -> usize
     let answer = read.answer;
     let table = read.table;
     match answer {
-        Taken::Done => put_alike(old, table, out),
-        Taken::Refused(refusal) => put_refused_file(b"NEW ", refusal, read.line, new, out),
+        Ok(()) => put_alike(old, table, out),
+        Err(refusal) => put_refused_file(b"NEW ", refusal, read.line, new, out),
     }
 }

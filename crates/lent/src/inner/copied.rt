@@ -4,25 +4,20 @@ ghost use Rattle.tables.specs.Slots.{extended};
 ghost use Rattle.tables.specs.Answers.{table_answer_in};
 ghost use Rattle.lent.specs.Copied.{answers_in, answers_of};
 
-use crate::{
-    current_tai_minus_utc, is_empty, last_update, len, tai_minus_utc_at, try_extend, try_from_slice,
-};
+use crate::{current_tai_minus_utc, is_empty, last_update, len, tai_minus_utc_at, try_extend, try_from_slice};
 use scales::tai::Tai;
 use tables::inner::shorter;
-use tables::{
-    DatedOffset, EmptyAnswer, LeapEntry, LeapTable, LengthAnswer, OffsetAnswer, TableAnswer, Taken,
-    UpdateAnswer,
-};
+use tables::{Dated, LeapEntry, LeapTable, TableAnswer};
 
 // What each call answers for one list.
 #[derive(Clone, Copy)]
 pub struct Answers {
-    pub check: Taken,
-    pub length: LengthAnswer,
-    pub empty: EmptyAnswer,
-    pub update: UpdateAnswer,
-    pub current: OffsetAnswer,
-    pub in_force: DatedOffset,
+    pub check: Result<(), Refusal>,
+    pub length: Result<usize, Refusal>,
+    pub empty: Result<bool, Refusal>,
+    pub update: Result<Option<Tai>, Refusal>,
+    pub current: Result<i32, Refusal>,
+    pub in_force: Dated<i32>,
 }
 
 // A table extended in place.

@@ -1,10 +1,9 @@
 // How far two tables convert alike.
 ghost use Rattle.std.specs.Prelude.{◌≡◌};
-ghost use Rattle.refusals.specs.Outcome.{Gives, changed};
-ghost use Rattle.alike.specs.Answers.{alike_in};
+ghost use Rattle.refusals.specs.Outcome.{Gives, changed, outcome_in};
 ghost use Rattle.plaitgate.specs.Tables.{alike_as, in_numbers};
 
-use alike::{Alike, AlikeAnswer};
+use alike::Alike;
 
 // 1 everywhere, 2 before the counts where one table extends the other, 3 before them where neither does, and 0 where
 // nothing is said.
@@ -35,16 +34,16 @@ fn tell(told: Alike, how: &mut u8, gps: &mut u64, utc: &mut u64)
     }
 }
 
-pub fn alike(answer: AlikeAnswer, how: &mut u8, gps: &mut u64, utc: &mut u64) -> u32
-    ensures { Gives (alike_as 0 0 0) (changed in_numbers (alike_in answer)) result
+pub fn alike(answer: Result<Alike, Refusal>, how: &mut u8, gps: &mut u64, utc: &mut u64) -> u32
+    ensures { Gives (alike_as 0 0 0) (changed in_numbers (outcome_in answer)) result
         (alike_as how.new gps.new utc.new) }
 {
     match answer {
-        AlikeAnswer::Told(told) => {
+        Ok(told) => {
             tell(told, how, gps, utc);
             0
         }
-        AlikeAnswer::Refused(r) => {
+        Err(r) => {
             *how = 0;
             *gps = 0;
             *utc = 0;

@@ -1,13 +1,13 @@
 // Civil readings.
 ghost use Rattle.std.specs.Prelude.{◌≡◌, pos};
-ghost use Rattle.refusals.specs.Outcome.{Gives};
+ghost use Rattle.tables.specs.Answers.{dated_in};
+ghost use Rattle.refusals.specs.Outcome.{Gives, outcome_in};
 ghost use Rattle.civil.specs.Fields.{fields};
-ghost use Rattle.readings.specs.Answers.{reading_in, dated_reading_in};
 ghost use Rattle.plaitgate.specs.Tables.{dated_as, with_stale};
 
 use crate::give::{byte, civil};
 use civil::CivilDateTime;
-use readings::{DatedReading, ReadingAnswer};
+use readings::Dated;
 
 // The fields with a refusal.
 fn no_fields() -> CivilDateTime
@@ -25,7 +25,7 @@ fn no_fields() -> CivilDateTime
 }
 
 pub fn reading(
-    answer: ReadingAnswer,
+    answer: Result<CivilDateTime, Refusal>,
     year: &mut i32,
     month: &mut u8,
     day: &mut u8,
@@ -34,16 +34,16 @@ pub fn reading(
     second: &mut u8,
     nanos: &mut u32,
 ) -> u32
-    ensures { Gives (fields (pos 0) 0 0 0 0 0 0) (reading_in answer) result
+    ensures { Gives (fields (pos 0) 0 0 0 0 0 0) (outcome_in answer) result
         (fields year.new month.new day.new hour.new minute.new
         second.new nanos.new) }
 {
     match answer {
-        ReadingAnswer::Fields(c) => {
+        Ok(c) => {
             civil(c, year, month, day, hour, minute, second, nanos);
             0
         }
-        ReadingAnswer::Refused(r) => {
+        Err(r) => {
             civil(no_fields(), year, month, day, hour, minute, second, nanos);
             r.number()
         }
@@ -52,7 +52,7 @@ pub fn reading(
 
 // By a table: the last byte is 1 where the table is stale.
 pub fn dated_reading(
-    found: DatedReading,
+    found: Dated<CivilDateTime>,
     year: &mut i32,
     month: &mut u8,
     day: &mut u8,
@@ -62,18 +62,18 @@ pub fn dated_reading(
     nanos: &mut u32,
     stale: &mut u8,
 ) -> u32
-    ensures { Gives (dated_as (fields (pos 0) 0 0 0 0 0 0) 0) (with_stale (dated_reading_in found)) result
+    ensures { Gives (dated_as (fields (pos 0) 0 0 0 0 0 0) 0) (with_stale (dated_in found)) result
         (dated_as (fields year.new month.new day.new hour.new
         minute.new second.new nanos.new) stale.new) }
 {
     let answer = found.answer;
     match answer {
-        ReadingAnswer::Fields(c) => {
+        Ok(c) => {
             *stale = byte(found.stale);
             civil(c, year, month, day, hour, minute, second, nanos);
             0
         }
-        ReadingAnswer::Refused(r) => {
+        Err(r) => {
             *stale = 0;
             civil(no_fields(), year, month, day, hour, minute, second, nanos);
             r.number()

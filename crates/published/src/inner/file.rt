@@ -11,16 +11,15 @@ use crate::ListAnswer;
 use crate::inner::{LineRead, NTP_SECONDS_TO_1980, read_line};
 use counts::Duration;
 use counts::sums::{Step, by_sign};
-use records::inner::Expiry;
 use records::inner::seconds::{Seconds, difference};
 use refusals::Refusal;
-use tables::{LeapTable, TableAnswer, Taken};
+use tables::{LeapTable, TableAnswer};
 
 // A refusal of the form at a line, or at none, with the empty table.
 pub fn refused_at(line: usize) -> ListAnswer
     ensures { reading_in result ≡ bad_list line }
 {
-    let answer = Taken::Refused(Refusal::BadList);
+    let answer = Err(Refusal::BadList);
     ListAnswer {
         answer,
         line,
@@ -44,14 +43,14 @@ fn answer_for(records: usize, made: TableAnswer) -> ListAnswer
     let table = made.table;
     let n = table.len;
     match answer {
-        Taken::Done => ListAnswer {
-            answer: Taken::Done,
+        Ok(()) => ListAnswer {
+            answer: Ok(()),
             line: 0,
             dropped: less_or_none(records, n),
             table,
         },
-        Taken::Refused(refusal) => ListAnswer {
-            answer: Taken::Refused(refusal),
+        Err(refusal) => ListAnswer {
+            answer: Err(refusal),
             line: 0,
             dropped: 0,
             table,
@@ -70,13 +69,13 @@ fn tai_second(ntp: u64, offset: i32) -> Seconds
 }
 
 // The expiry that was read, if any, by the last offset.
-fn expiry_by(dated: bool, ntp: u64, offset: i32) -> Expiry
+fn expiry_by(dated: bool, ntp: u64, offset: i32) -> Option<Seconds>
     ensures { expiry_second_in result ≡ expiry_second (expiry_held dated ntp) offset }
 {
     if dated {
-        Expiry::At(tai_second(ntp, offset))
+        Some(tai_second(ntp, offset))
     } else {
-        Expiry::Nothing
+        None
     }
 }
 

@@ -3,7 +3,7 @@
 use crate::by_value::said;
 use crate::numbered;
 use crate::reply::{Question, Reply};
-use conversions::beidou::DatedBeidou;
+use conversions::beidou::Dated;
 use scales::beidou::Beidou;
 use scales::glonass::Glonass;
 use scales::gps::Gps;
@@ -41,7 +41,7 @@ fn by(call: u64, count: u64, table: LeapTable) -> Reply {
     }
 }
 
-fn dated(found: DatedBeidou) -> Reply {
+fn dated(found: Dated<Beidou>) -> Reply {
     let answer = found.answer;
     said::dated(said::beidou(answer), found.stale)
 }

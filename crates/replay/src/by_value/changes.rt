@@ -4,7 +4,7 @@ use crate::reply::{Question, Reply};
 use crate::{ask, numbered};
 use lent::inner::copied::extended_in_place;
 use scales::tai::Tai;
-use tables::{EntryAnswer, LeapEntry, LeapTable, LengthAnswer, TableAnswer, Taken};
+use tables::{LeapEntry, LeapTable, TableAnswer};
 
 pub fn changes(call: u64, q: Question) -> Reply {
     let made = change(call, q);
@@ -35,10 +35,10 @@ pub fn expiry(q: Question) -> Reply {
     said::update(table.expiry())
 }
 
-fn number_of(answer: Taken) -> u32 {
+fn number_of(answer: Result<(), Refusal>) -> u32 {
     match answer {
-        Taken::Done => 0,
-        Taken::Refused(why) => why.number(),
+        Ok(()) => 0,
+        Err(why) => why.number(),
     }
 }
 
@@ -73,7 +73,7 @@ fn extended(table: LeapTable, entry: LeapEntry) -> TableAnswer {
 
 fn done(table: LeapTable) -> TableAnswer {
     TableAnswer {
-        answer: Taken::Done,
+        answer: Ok(()),
         table,
     }
 }
@@ -101,8 +101,8 @@ fn from_lists(q: Question) -> TableAnswer {
 // A refusal's number with the table's length and last entry.
 fn afterwards(number: u32, table: LeapTable) -> Reply {
     match table.len() {
-        LengthAnswer::Length(n) => last_of(number, n, table),
-        LengthAnswer::Refused(_) => Reply::one(number, 0),
+        Ok(n) => last_of(number, n, table),
+        Err(_) => Reply::one(number, 0),
     }
 }
 
@@ -111,12 +111,12 @@ fn last_of(number: u32, n: usize, table: LeapTable) -> Reply {
         return Reply::one(number, 0);
     }
     match table.entry_at(n - 1) {
-        EntryAnswer::Entry(e) => {
+        Ok(Some(e)) => {
             let offset = e.tai_minus_utc;
             Reply::entry(number, n as u64, e.tai_nanos, offset)
         }
-        EntryAnswer::Nothing => Reply::unknown(),
-        EntryAnswer::Refused(_) => Reply::unknown(),
+        Ok(None) => Reply::unknown(),
+        Err(_) => Reply::unknown(),
     }
 }
 

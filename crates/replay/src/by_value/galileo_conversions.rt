@@ -3,7 +3,7 @@
 use crate::by_value::said;
 use crate::numbered;
 use crate::reply::{Question, Reply};
-use conversions::galileo::DatedGalileo;
+use conversions::galileo::Dated;
 use scales::galileo::Galileo;
 use scales::glonass::Glonass;
 use scales::gps::Gps;
@@ -41,7 +41,7 @@ fn by(call: u64, count: u64, table: LeapTable) -> Reply {
     }
 }
 
-fn dated(found: DatedGalileo) -> Reply {
+fn dated(found: Dated<Galileo>) -> Reply {
     let answer = found.answer;
     said::dated(said::galileo(answer), found.stale)
 }

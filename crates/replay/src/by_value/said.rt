@@ -3,30 +3,28 @@ mod scale_counts;
 
 use crate::reply::Reply;
 use crate::year;
-use calendar::{CivilDate, SpanAnswer};
+use calendar::CivilDate;
 use civil::CivilDateTime;
-use conversions::{DatedGlonass, DatedGps, DatedUnix, DatedUtc, UnixAnswer};
-use counts::units::{DurationParts, PartsAnswer};
-use counts::{CountAnswer, Duration, DurationAnswer};
-use tables::{
-    DatedOffset, EmptyAnswer, EntryAnswer, LengthAnswer, OffsetAnswer, Taken, UpdateAnswer,
-};
+use conversions::{Dated, Dated, Dated, Dated};
+use counts::units::DurationParts;
+use counts::Duration;
+use tables::Dated;
 
 // every scale, by tools/write-scales
 pub use scale_counts::{beidou, galileo, glonass, gps, tai, utc};
 // end of every scale
 
-pub fn count(answer: CountAnswer) -> Reply {
+pub fn count(answer: Result<u64, Refusal>) -> Reply {
     match answer {
-        CountAnswer::Count(n) => Reply::one(0, n),
-        CountAnswer::Refused(why) => Reply::refused(why),
+        Ok(n) => Reply::one(0, n),
+        Err(why) => Reply::refused(why),
     }
 }
 
-pub fn unix(answer: UnixAnswer) -> Reply {
+pub fn unix(answer: Result<i64, Refusal>) -> Reply {
     match answer {
-        UnixAnswer::Seconds(s) => Reply::signed(0, s),
-        UnixAnswer::Refused(why) => Reply::refused(why),
+        Ok(s) => Reply::signed(0, s),
+        Err(why) => Reply::refused(why),
     }
 }
 
@@ -39,35 +37,35 @@ pub fn dated(answer: Reply, stale: bool) -> Reply {
     }
 }
 
-pub fn dated_gps(found: DatedGps) -> Reply {
+pub fn dated_gps(found: Dated<Gps>) -> Reply {
     let answer = found.answer;
     dated(gps(answer), found.stale)
 }
 
-pub fn dated_utc(found: DatedUtc) -> Reply {
+pub fn dated_utc(found: Dated<Utc>) -> Reply {
     let answer = found.answer;
     dated(utc(answer), found.stale)
 }
 
-pub fn dated_glonass(found: DatedGlonass) -> Reply {
+pub fn dated_glonass(found: Dated<Glonass>) -> Reply {
     let answer = found.answer;
     dated(glonass(answer), found.stale)
 }
 
-pub fn dated_unix(found: DatedUnix) -> Reply {
+pub fn dated_unix(found: Dated<i64>) -> Reply {
     let answer = found.answer;
     dated(unix(answer), found.stale)
 }
 
-pub fn dated_offset(found: DatedOffset) -> Reply {
+pub fn dated_offset(found: Dated<i32>) -> Reply {
     let answer = found.answer;
     dated(offset(answer), found.stale)
 }
 
-pub fn duration(answer: DurationAnswer) -> Reply {
+pub fn duration(answer: Result<Duration, Refusal>) -> Reply {
     match answer {
-        DurationAnswer::Lasts(d) => lasting(d),
-        DurationAnswer::Refused(why) => Reply::refused(why),
+        Ok(d) => lasting(d),
+        Err(why) => Reply::refused(why),
     }
 }
 
@@ -76,10 +74,10 @@ pub fn lasting(d: Duration) -> Reply {
     Reply::signed(0, n)
 }
 
-pub fn span(answer: SpanAnswer) -> Reply {
+pub fn span(answer: Result<i64, Refusal>) -> Reply {
     match answer {
-        SpanAnswer::Span(n) => Reply::signed(0, n),
-        SpanAnswer::Refused(why) => Reply::refused(why),
+        Ok(n) => Reply::signed(0, n),
+        Err(why) => Reply::refused(why),
     }
 }
 
@@ -87,10 +85,10 @@ pub fn parts(p: DurationParts) -> Reply {
     Reply::two(0, p.seconds, p.nanos as u64)
 }
 
-pub fn checked_parts(answer: PartsAnswer) -> Reply {
+pub fn checked_parts(answer: Result<DurationParts, Refusal>) -> Reply {
     match answer {
-        PartsAnswer::Parts(p) => parts(p),
-        PartsAnswer::Refused(why) => Reply::refused(why),
+        Ok(p) => parts(p),
+        Err(why) => Reply::refused(why),
     }
 }
 
@@ -127,49 +125,49 @@ pub fn civil(c: CivilDateTime) -> Reply {
     )
 }
 
-pub fn taken(answer: Taken) -> Reply {
+pub fn taken(answer: Result<(), Refusal>) -> Reply {
     match answer {
-        Taken::Done => Reply::one(0, 0),
-        Taken::Refused(why) => Reply::refused(why),
+        Ok(()) => Reply::one(0, 0),
+        Err(why) => Reply::refused(why),
     }
 }
 
-pub fn length(answer: LengthAnswer) -> Reply {
+pub fn length(answer: Result<usize, Refusal>) -> Reply {
     match answer {
-        LengthAnswer::Length(n) => Reply::one(0, n as u64),
-        LengthAnswer::Refused(why) => Reply::refused(why),
+        Ok(n) => Reply::one(0, n as u64),
+        Err(why) => Reply::refused(why),
     }
 }
 
-pub fn emptiness(answer: EmptyAnswer) -> Reply {
+pub fn emptiness(answer: Result<bool, Refusal>) -> Reply {
     match answer {
-        EmptyAnswer::Empty(b) => yes(b),
-        EmptyAnswer::Refused(why) => Reply::refused(why),
+        Ok(b) => yes(b),
+        Err(why) => Reply::refused(why),
     }
 }
 
-pub fn entry(answer: EntryAnswer) -> Reply {
+pub fn entry(answer: Result<Option<LeapEntry>, Refusal>) -> Reply {
     match answer {
-        EntryAnswer::Entry(e) => {
+        Ok(Some(e)) => {
             let offset = e.tai_minus_utc;
             Reply::entry(0, 1, e.tai_nanos, offset)
         }
-        EntryAnswer::Nothing => Reply::one(0, 0),
-        EntryAnswer::Refused(why) => Reply::refused(why),
+        Ok(None) => Reply::one(0, 0),
+        Err(why) => Reply::refused(why),
     }
 }
 
-pub fn update(answer: UpdateAnswer) -> Reply {
+pub fn update(answer: Result<Option<Tai>, Refusal>) -> Reply {
     match answer {
-        UpdateAnswer::At(t) => Reply::two(0, 1, t.0),
-        UpdateAnswer::Nothing => Reply::one(0, 0),
-        UpdateAnswer::Refused(why) => Reply::refused(why),
+        Ok(Some(t)) => Reply::two(0, 1, t.0),
+        Ok(None) => Reply::one(0, 0),
+        Err(why) => Reply::refused(why),
     }
 }
 
-pub fn offset(answer: OffsetAnswer) -> Reply {
+pub fn offset(answer: Result<i32, Refusal>) -> Reply {
     match answer {
-        OffsetAnswer::Offset(seconds) => Reply::offset(0, seconds),
-        OffsetAnswer::Refused(why) => Reply::refused(why),
+        Ok(seconds) => Reply::offset(0, seconds),
+        Err(why) => Reply::refused(why),
     }
 }

@@ -6,7 +6,7 @@ use Rattle.calendar.specs.Calendar.{Date}
 use Rattle.calendar.specs.Answers.{date_in}
 use Rattle.calendar.specs.Dates.{days_between}
 use Rattle.calendar.proofs.Lifting.{Sized, apart, days_fit, seconds_fit}
-use Rattle.calendar.proofs.TooEarly.{Given, given, refuses}
+use Rattle.calendar.proofs.TooEarly.{Given, given}
 use Rattle.calendar.proofs.CivilDate.seconds_until.Goals as goal
 
 module _ (a b : Date) (n : ℤ) (g : Given a b n) (s : Sized a) (t : Sized b) where
@@ -20,15 +20,12 @@ module _ (a b : Date) (n : ℤ) (g : Given a b n) (s : Sized a) (t : Sized b) wh
 
 pub overflow_mul-result : goal.overflow_mul-result
 overflow_mul-result c =
-    fits (date_in c.args.self) (date_in c.args.other) c.in-Span.days (given _ _ _ c.in-Span.ensures) (omega arith)
+    fits (date_in c.args.self) (date_in c.args.other) c.in_ok-days_until.field-0 (given _ _ _ c.in_ok-days_until.ensures) (omega arith)
     (omega arith)
 
-pub returns-in-Span : goal.returns-in-Span
-returns-in-Span c =
-    let g = given (date_in c.args.self) (date_in c.args.other) c.in-Span.days c.in-Span.ensures in
+pub returns : goal.returns
+returns c =
+    let g = given (date_in c.args.self) (date_in c.args.other) c.in_ok-days_until.field-0 c.in_ok-days_until.ensures in
     ap (λ (z : ℤ). answered z)
     (to_z-of_z (overflow_mul-result c) ∙ read (date_in c.args.self) (date_in c.args.other) _ g (omega arith) (omega arith))
     ∙ g.gives _
-
-pub returns-in-Refused : goal.returns-in-Refused
-returns-in-Refused c = refuses (date_in c.args.self) (date_in c.args.other) _ c.in-Refused.ensures _

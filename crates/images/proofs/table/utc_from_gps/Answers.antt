@@ -1,8 +1,7 @@
 -- One checked lookup, at the TAI reading.
 use Rattle.std.proofs.Common.{◌+◌, sym, ap, ◌∙◌}
-use Rattle.refusals.specs.Outcome.{value_in, then}
+use Rattle.refusals.specs.Outcome.{value_in, then, outcome_in}
 use Rattle.counts.specs.Exact.{up}
-use Rattle.counts.specs.Answers.{count_in}
 use Rattle.scales.specs.Scales.{tai_minus_gps}
 use Rattle.tables.specs.Slots.{entries_of}
 use Rattle.tables.specs.Expiry.{stale_at, dated}
@@ -19,7 +18,7 @@ returns c =
     let a = c.args in
     let b = a.image.now in
     let es = entries_of (table_in b) in
-    let gps = count_in a.gps in
+    let gps = outcome_in a.gps in
     let first = value_in 0 (then gps (up tai_minus_gps)) in
     let counts = c.utc_from_lookup.ensures
     ∙ utc_from_store (holds b) es gps c.tai_of-tai.ensures c.reading_of-reading.ensures

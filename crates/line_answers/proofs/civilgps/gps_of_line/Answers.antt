@@ -3,10 +3,10 @@ use Rattle.std.proofs.Common.{sym}
 use Rattle.line_answers.specs.Civilgps.{gps_of_line}
 use Rattle.line_answers.proofs.civilgps.gps_of_line.Goals as goal
 
-pub returns-in-Fields : goal.returns-in-Fields
+pub returns-in-Ok : goal.returns-in-Ok
 unfolding gps_of_line
-returns-in-Fields c = rw (sym c.in-Fields.ensures) c.civil_to_gps.ensures
+returns-in-Ok c = rw (sym c.in-Ok.ensures) c.civil_to_gps.ensures
 
-pub returns-in-Refused : goal.returns-in-Refused
+pub returns-in-Err : goal.returns-in-Err
 unfolding gps_of_line
-returns-in-Refused c = rw (sym c.in-Refused.ensures)
+returns-in-Err c = rw (sym c.in-Err.ensures)

@@ -12,13 +12,13 @@ use Rattle.readings.proofs.ByLookup.{back_by}
 use Rattle.readings.proofs.FirstAndLast.{by_next}
 use Rattle.readings.proofs.by_builtin.count_of.Goals as goal
 
-pub returns-in-Count : goal.returns-in-Count
-returns-in-Count c =
+pub returns-in-Ok : goal.returns-in-Ok
+returns-in-Ok c =
     let later = ap (λ (o : Outcome ℕ). then o (up second)) c.to_utc_nanos-utc.ensures in
     rw (ne_eqb _ 60 c.if-fields-ne-INSERTED.true)
     (c.down.ensures ∙ ap (λ (o : Outcome ℕ). then o (down second)) c.gps_from_utc.ensures
     ∙ ap (λ (o : Outcome ℕ). then (then o (utc_to_gps builtin)) (down second)) (c.up-next.ensures ∙ later)
-    ∙ by_next builtin builtin_on_days (count_at c.args.fields) _ (sym (c.in-Count.ensures ∙ later)))
+    ∙ by_next builtin builtin_on_days (count_at c.args.fields) _ (sym (c.in-Ok.ensures ∙ later)))
 
 pub returns : goal.returns
 returns c =

@@ -6,11 +6,11 @@ use Rattle.builtin.proofs.Regular.{builtin_on_days}
 use Rattle.readings.proofs.ByLookup.{read_by}
 use Rattle.readings.proofs.by_builtin.gps_to_civil.Goals as goal
 
-pub returns-in-Count : goal.returns-in-Count
-returns-in-Count c =
+pub returns-in-Ok : goal.returns-in-Ok
+returns-in-Ok c =
     c.read.ensures
-    ∙ read_by builtin builtin_on_days c.args.gps.0 c.in-Count.ensures refl (c.entry_told.ensures ∙ c.event_at.ensures.is)
+    ∙ read_by builtin builtin_on_days c.args.gps.0 c.in-Ok.ensures refl (c.entry_told.ensures ∙ c.event_at.ensures.is)
 
-pub returns-in-Refused : goal.returns-in-Refused
-returns-in-Refused c =
-    read_by builtin builtin_on_days c.args.gps.0 {found = lookup builtin 0} c.in-Refused.ensures refl refl
+pub returns-in-Err : goal.returns-in-Err
+returns-in-Err c =
+    read_by builtin builtin_on_days c.args.gps.0 {found = lookup builtin 0} c.in-Err.ensures refl refl

@@ -1,8 +1,7 @@
 -- A lookup that tests the table in the image; then the first GPS count that has the fields' UTC count, and a lookup at its
 -- TAI reading.
 use Rattle.std.proofs.Common.{◌≡◌, sym, ap, ◌∙◌, false, true, cond, ℕ, ◌+◌}
-use Rattle.refusals.specs.Outcome.{Outcome, refused, value_in, then}
-use Rattle.counts.specs.Answers.{count_in}
+use Rattle.refusals.specs.Outcome.{Outcome, refused, value_in, then, outcome_in}
 use Rattle.counts.specs.Exact.{up}
 use Rattle.scales.specs.Scales.{tai_minus_gps}
 use Rattle.civil.specs.Real.{of_real}
@@ -21,17 +20,17 @@ use Rattle.readings.proofs.by_image.civil_to_gps.Goals as goal
 
 pub is_on_days-requires : goal.is_on_days-requires
 is_on_days-requires c =
-    let k = told_held c.args.image.now _ c.in-Told.ensures in
+    let k = told_held c.args.image.now _ c.in-Ok.ensures in
     record { image_len = k.size; image_value = k.table.passes }
 
 pub look_up-requires : goal.look_up-requires
 look_up-requires c =
-    let k = told_held c.args.image.now _ c.in-Told.ensures in
+    let k = told_held c.args.image.now _ c.in-Ok.ensures in
     record { image_len = k.size; image_value = k.table.passes }
 
 pub look_up-found-requires : goal.look_up-found-requires
 look_up-found-requires c =
-    let k = told_held c.args.image.now _ c.in-Told.ensures in
+    let k = told_held c.args.image.now _ c.in-Ok.ensures in
     record { image_len = k.size; image_value = k.table.passes }
 
 pub returns-then-not-is_on_days : goal.returns-then-not-is_on_days
@@ -40,35 +39,35 @@ returns-then-not-is_on_days c =
     let off : on_days (es b) ≡ false = sym c.is_on_days.ensures ∙ c.if-not-is_on_days.true in
     c.date.ensures
     ∙ by_held b (λ es. value_in 0 (civil_to_gps es c.args.fields) + tai_minus_gps) (λ es. civil_to_gps es c.args.fields)
-    (told_held b _ c.in-Told.ensures) (rw off)
+    (told_held b _ c.in-Ok.ensures) (rw off)
 
 pub returns-else-not-is_on_days : goal.returns-else-not-is_on_days
 returns-else-not-is_on_days c =
     let b = c.args.image.now in
     let fields = c.args.fields in
-    let k = told_held b _ c.in-Told.ensures in
+    let k = told_held b _ c.in-Ok.ensures in
     let on : on_days (es b) ≡ true = sym c.is_on_days.ensures ∙ c.if-not-is_on_days.false in
     let x = (table_in b).expiry in
-    let count = count_in c.to_utc_nanos-utc.result in
+    let count = outcome_in c.to_utc_nanos-utc.result in
     let first_is = c.gps_from_lookup-first.ensures
     ∙ gps_from_store (holds b) (es b) count c.first_reading_of-a.ensures
-    (c.in-Told.ensures ∙ one_test b _) c.last_reading_of-b.ensures c.look_up.ensures
+    (c.in-Ok.ensures ∙ one_test b _) c.last_reading_of-b.ensures c.look_up.ensures
     ∙ ap (λ v. cond v (then count (utc_to_gps (es b))) (refused 8)) k.passes in
     let of_fields = c.back.ensures
     ∙ back_by (es b) on fields c.to_utc_nanos-utc.ensures first_is
     (c.reading_of.ensures ∙ ap (value_in 0) c.tai_of.ensures) c.look_up-found.ensures in
-    let counts : count_in c.if_real-gps.result ≡ civil_to_gps (es b) fields
+    let counts : outcome_in c.if_real-gps.result ≡ civil_to_gps (es b) fields
     = rw on (c.if_real-gps.ensures ∙ ap (of_real fields) of_fields) in
-    let tai_is = c.tai_of-in-Told.ensures ∙ ap (λ (o : Outcome ℕ). then o (up tai_minus_gps)) counts in
+    let tai_is = c.tai_of-in-Ok.ensures ∙ ap (λ (o : Outcome ℕ). then o (up tai_minus_gps)) counts in
     let reads = c.is_stale-stale.ensures
     ∙ (λ i. stale_at ((c.expiry.ensures ∙ of_image b k.size) i)
-    ((c.reading_of-in-Told.ensures ∙ ap (value_in 0) tai_is) i)) in
-    c.date-in-Told.ensures
+    ((c.reading_of-in-Ok.ensures ∙ ap (value_in 0) tai_is) i)) in
+    c.date-in-Ok.ensures
     ∙ by_held b (λ es. value_in 0 (civil_to_gps es fields) + tai_minus_gps) (λ es. civil_to_gps es fields) k
     ((λ i. dated (reads i) (counts i)) ∙ at-answer x (civil_to_gps (es b) fields) (has_reading (es b) on fields))
 
-pub returns-in-Refused : goal.returns-in-Refused
-returns-in-Refused c =
-    c.date-in-Refused.ensures
+pub returns-in-Err : goal.returns-in-Err
+returns-in-Err c =
+    c.date-in-Err.ensures
     ∙ not_told c.args.image.now (λ es. value_in 0 (civil_to_gps es c.args.fields) + tai_minus_gps)
-    (λ es. civil_to_gps es c.args.fields) _ c.in-Refused.ensures
+    (λ es. civil_to_gps es c.args.fields) _ c.in-Err.ensures

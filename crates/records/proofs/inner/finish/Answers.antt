@@ -7,11 +7,11 @@ use Rattle.records.specs.Seconds.{expiry_second_in}
 use Rattle.records.proofs.Kept.{holds_refused, holds_finish}
 use Rattle.records.proofs.inner.finish.Goals as goal
 
-pub returns-in-Refused : goal.returns-in-Refused
-returns-in-Refused c rs h =
-    let why = c.in-Refused.why in
+pub returns-in-Err : goal.returns-in-Err
+returns-in-Err c rs h =
+    let why = c.in-Err.why in
     (λ i. (number_of why, c.new.ensures i))
-    ∙ holds_refused _ (expiry_second_in c.args.expiry) rs _ _ _ h _ (number_not_zero why) c.in-Refused.ensures
+    ∙ holds_refused _ (expiry_second_in c.args.expiry) rs _ _ _ h _ (number_not_zero why) c.in-Err.ensures
 
 pub returns : goal.returns
 returns c rs h =

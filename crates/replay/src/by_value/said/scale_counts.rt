@@ -1,51 +1,45 @@
 // Written by tools/write-scales from its template in tools/templates.
 // The answers of each scale.
 use crate::reply::Reply;
-use scales::beidou::BeidouAnswer;
-use scales::galileo::GalileoAnswer;
-use scales::glonass::GlonassAnswer;
-use scales::gps::GpsAnswer;
-use scales::tai::TaiAnswer;
-use scales::utc::UtcAnswer;
 
-pub fn gps(answer: GpsAnswer) -> Reply {
+pub fn gps(answer: Result<Gps, Refusal>) -> Reply {
     match answer {
-        GpsAnswer::Count(t) => Reply::one(0, t.0),
-        GpsAnswer::Refused(why) => Reply::refused(why),
+        Ok(t) => Reply::one(0, t.0),
+        Err(why) => Reply::refused(why),
     }
 }
 
-pub fn utc(answer: UtcAnswer) -> Reply {
+pub fn utc(answer: Result<Utc, Refusal>) -> Reply {
     match answer {
-        UtcAnswer::Count(t) => Reply::one(0, t.0),
-        UtcAnswer::Refused(why) => Reply::refused(why),
+        Ok(t) => Reply::one(0, t.0),
+        Err(why) => Reply::refused(why),
     }
 }
 
-pub fn glonass(answer: GlonassAnswer) -> Reply {
+pub fn glonass(answer: Result<Glonass, Refusal>) -> Reply {
     match answer {
-        GlonassAnswer::Count(t) => Reply::one(0, t.0),
-        GlonassAnswer::Refused(why) => Reply::refused(why),
+        Ok(t) => Reply::one(0, t.0),
+        Err(why) => Reply::refused(why),
     }
 }
 
-pub fn tai(answer: TaiAnswer) -> Reply {
+pub fn tai(answer: Result<Tai, Refusal>) -> Reply {
     match answer {
-        TaiAnswer::Count(t) => Reply::one(0, t.0),
-        TaiAnswer::Refused(why) => Reply::refused(why),
+        Ok(t) => Reply::one(0, t.0),
+        Err(why) => Reply::refused(why),
     }
 }
 
-pub fn galileo(answer: GalileoAnswer) -> Reply {
+pub fn galileo(answer: Result<Galileo, Refusal>) -> Reply {
     match answer {
-        GalileoAnswer::Count(t) => Reply::one(0, t.0),
-        GalileoAnswer::Refused(why) => Reply::refused(why),
+        Ok(t) => Reply::one(0, t.0),
+        Err(why) => Reply::refused(why),
     }
 }
 
-pub fn beidou(answer: BeidouAnswer) -> Reply {
+pub fn beidou(answer: Result<Beidou, Refusal>) -> Reply {
     match answer {
-        BeidouAnswer::Count(t) => Reply::one(0, t.0),
-        BeidouAnswer::Refused(why) => Reply::refused(why),
+        Ok(t) => Reply::one(0, t.0),
+        Err(why) => Reply::refused(why),
     }
 }

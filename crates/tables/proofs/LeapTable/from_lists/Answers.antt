@@ -13,14 +13,14 @@ returns-then-n-gt-RUNTIME_CAPACITY c =
     c.unbuilt-then-n-gt-RUNTIME_CAPACITY.ensures
     ∙ too_many_given _ _ _ c.shorter-n.ensures c.if-n-gt-RUNTIME_CAPACITY.true
 
-pub returns-in-Refused : goal.returns-in-Refused
-returns-in-Refused c =
-    c.unbuilt-in-Refused.ensures
+pub returns-in-Err : goal.returns-in-Err
+returns-in-Err c =
+    c.unbuilt-in-Err.ensures
     ∙ entry_refused _ _ _ c.shorter-n.ensures c.if-n-eq0.false c.if-n-gt-RUNTIME_CAPACITY.false _
-    (number_not_zero c.in-Refused.why) (sym (ap taken_in c.in-Refused.is) ∙ c.first_refusal.ensures.first)
+    (number_not_zero c.in-Err.why) (sym (ap taken_in c.in-Err.is) ∙ c.first_refusal.ensures.first)
 
-pub returns-in-Done : goal.returns-in-Done
-returns-in-Done c =
+pub returns-in-Ok : goal.returns-in-Ok
+returns-in-Ok c =
     (λ j. (0, c.table_of.ensures j))
     ∙ all_taken _ _ _ c.shorter-n.ensures c.if-n-eq0.false c.if-n-gt-RUNTIME_CAPACITY.false
-    (sym (ap taken_in c.in-Done.is) ∙ c.first_refusal.ensures.first)
+    (sym (ap taken_in c.in-Ok.is) ∙ c.first_refusal.ensures.first)

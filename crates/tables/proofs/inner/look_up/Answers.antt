@@ -1,8 +1,8 @@
 -- The search counts the thresholds at or below the reading, and the last of their entries is in force.
+use Rattle.std.specs.Prelude.{Some}
 use Rattle.std.proofs.Common.{get_or, pos, sym, ap, ◌∙◌, rules, arith, w32}
 use mir.Facts.{to_z-of_z}
 use Rattle.tables.specs.Search.{slot_told}
-use Rattle.tables.specs.declared.Place.TheVariants as place
 use Rattle.tables.proofs.InForce.{rises, lookup_is, none_in_force}
 use Rattle.tables.proofs.inner.look_up.Goals as goal
 
@@ -17,7 +17,7 @@ returns c =
     let a = c.args in
     let found = c.place_in_force-place in
     let fits = to_z-of_z {w = w32} {z = get_or a.offsets.now found.result (pos 0)} (search rules) in
-    (λ i. record { offset = fits i; place = place.At found.result; next = c.threshold_after.ensures i })
+    (λ i. record { offset = fits i; place = Some found.result; next = c.threshold_after.ensures i })
     ∙ ap (slot_told a.thresholds.now a.offsets.now a.n) found.ensures
     ∙ sym
     (lookup_is _ _ _ (search rules) (search rules) _ _ (omega (arith, c.if-n-eq0.false)) c.count_at_or_below.ensures)

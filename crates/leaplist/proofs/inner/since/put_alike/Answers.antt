@@ -20,14 +20,14 @@ lacking_is old new ts ns us ms few less =
       slots_length new.thresholds new.offsets new.len (omega arith) (omega arith),
     )
 
-pub returns-in-Told : goal.returns-in-Told
-returns-in-Told c =
+pub returns-in-Ok : goal.returns-in-Ok
+returns-in-Ok c =
     let a = c.args in
     let out = a.out.now in
-    let told = c.in-Told.told in
+    let told = c.in-Ok.told in
     let text = words_for (fewer (entries_of a.new) (entries_of a.old)) told in
     let lacking = lacking_is a.old a.new (search rules) (search rules) (search rules) (search rules) (omega arith) (omega arith) in
     let words = subst (λ (b : Bool). PutsAt 0 (words_for b told) out c.put_told-end.new.out c.put_told-end.result)
     lacking c.put_told-end.ensures in
-    rw (line_is a.old a.new _ c.in-Told.ensures)
+    rw (line_is a.old a.new _ c.in-Ok.ensures)
     (from_start out (text ++ (10 ∷ [])) (then_puts out 0 text (10 ∷ []) words (refl, refl)))

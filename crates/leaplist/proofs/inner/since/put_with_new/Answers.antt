@@ -4,14 +4,14 @@ use Rattle.tables.specs.Answers.{taken_in}
 use Rattle.leaplist.proofs.SinceLines.{new_accepted, new_refused}
 use Rattle.leaplist.proofs.inner.since.put_with_new.Goals as goal
 
-pub returns-in-Done : goal.returns-in-Done
-returns-in-Done c =
+pub returns-in-Ok : goal.returns-in-Ok
+returns-in-Ok c =
     let a = c.args in
-    rw (new_accepted a.new.now c.read-read.result c.read-read.ensures a.old (ap taken_in c.in-Done.is)) c.put_alike.ensures
+    rw (new_accepted a.new.now c.read-read.result c.read-read.ensures a.old (ap taken_in c.in-Ok.is)) c.put_alike.ensures
 
-pub returns-in-Refused : goal.returns-in-Refused
-returns-in-Refused c =
+pub returns-in-Err : goal.returns-in-Err
+returns-in-Err c =
     let a = c.args in
-    let refused = ap taken_in c.in-Refused.is in
-    rw (new_refused a.new.now c.read-read.result c.read-read.ensures a.old c.in-Refused.refusal refused)
+    let refused = ap taken_in c.in-Err.is in
+    rw (new_refused a.new.now c.read-read.result c.read-read.ensures a.old c.in-Err.refusal refused)
     c.put_refused_file.ensures
