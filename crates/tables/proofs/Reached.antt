@@ -1,6 +1,6 @@
 -- The offset in force over a regular list is 19 and the number of later thresholds passed; the laws of that number, by
 -- induction on the list.
-use Rattle.std.specs.Prelude.{None, Some, ℤ}
+use Rattle.std.specs.Prelude.{None, Some}
 use mathlib.Core.Path.{◌≡◌, refl, ap, ◌∙◌}
 use mathlib.Core.Bool.{true, cond, ◌&&◌}
 use mathlib.Core.List.{List, [], ◌∷◌, Memᴰ}

@@ -1,9 +1,8 @@
 -- What an answer says in plain values tells which answer it is.
-use Rattle.std.specs.Prelude.{Option, Some, None, Result, Ok, Err, ℕ}
+use Rattle.std.specs.Prelude.{Option, Some, None, Result, Ok, Err}
 use mathlib.Core.Path.{◌≡◌, refl, sym, ap}
 use Rattle.tables.specs.declared.Dated.{Dated}
 use Rattle.refusals.specs.declared.Refusal.{Refusal}
-use Rattle.refusals.specs.Outcome.{outcome_in}
 use Rattle.refusals.proofs.Tells.{outcome_tells, number_tells, number_not_zero}
 use Rattle.scales.proofs.Tells.{tai_count_tells}
 use Rattle.tables.specs.Answers.{taken_in, table_answer_in, entry_in, update_in, dated_in}

@@ -6,21 +6,21 @@ use Rattle.tables.proofs.Growing.{nothing_given, too_many_given, entry_refused, 
 use Rattle.tables.proofs.LeapTable.from_lists.Goals as goal
 
 pub returns-then-n-eq0 : goal.returns-then-n-eq0
-returns-then-n-eq0 c = c.unbuilt.ensures ∙ nothing_given _ _ _ c.shorter-n.ensures c.if-n-eq0.true
+returns-then-n-eq0 c = c.unbuilt.ensures ∙ nothing_given _ _ _ c.min-n.ensures c.if-n-eq0.true
 
 pub returns-then-n-gt-RUNTIME_CAPACITY : goal.returns-then-n-gt-RUNTIME_CAPACITY
 returns-then-n-gt-RUNTIME_CAPACITY c =
     c.unbuilt-then-n-gt-RUNTIME_CAPACITY.ensures
-    ∙ too_many_given _ _ _ c.shorter-n.ensures c.if-n-gt-RUNTIME_CAPACITY.true
+    ∙ too_many_given _ _ _ c.min-n.ensures c.if-n-gt-RUNTIME_CAPACITY.true
 
 pub returns-in-Err : goal.returns-in-Err
 returns-in-Err c =
     c.unbuilt-in-Err.ensures
-    ∙ entry_refused _ _ _ c.shorter-n.ensures c.if-n-eq0.false c.if-n-gt-RUNTIME_CAPACITY.false _
+    ∙ entry_refused _ _ _ c.min-n.ensures c.if-n-eq0.false c.if-n-gt-RUNTIME_CAPACITY.false _
     (number_not_zero c.in-Err.why) (sym (ap taken_in c.in-Err.is) ∙ c.first_refusal.ensures.first)
 
 pub returns-in-Ok : goal.returns-in-Ok
 returns-in-Ok c =
-    (λ j. (0, c.table_of.ensures j))
-    ∙ all_taken _ _ _ c.shorter-n.ensures c.if-n-eq0.false c.if-n-gt-RUNTIME_CAPACITY.false
+    c.done.ensures ∙ (λ j. (0, c.table_of.ensures j))
+    ∙ all_taken _ _ _ c.min-n.ensures c.if-n-eq0.false c.if-n-gt-RUNTIME_CAPACITY.false
     (sym (ap taken_in c.in-Ok.is) ∙ c.first_refusal.ensures.first)
