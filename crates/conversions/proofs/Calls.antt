@@ -1,9 +1,6 @@
 -- Each call of this crate leaves one answer for each input.
--- shifted scales, by tools/write-scales
 pub mod Galileo
 pub mod Beidou
--- end of shifted scales
-
 use Rattle.tables.proofs.Tells.{dated_tells}
 use Rattle.refusals.proofs.OneAnswer.{OneAnswer, viewed}
 use Rattle.scales.proofs.Tells.{utc_tells, glonass_tells}
@@ -16,8 +13,6 @@ use Rattle.conversions.proofs.glonass_to_gps.Reads as glonass_to_gps_contract
 use Rattle.conversions.proofs.gps_to_glonass.Reads as gps_to_glonass_contract
 use Rattle.conversions.proofs.gps_from_unix_seconds.Reads as gps_from_unix_seconds_contract
 use Rattle.conversions.proofs.gps_as_unix_seconds.Reads as gps_as_unix_seconds_contract
-use Rattle.scales.specs.declared.galileo.Galileo.{Galileo}
-use Rattle.scales.specs.declared.beidou.Beidou.{Beidou}
 
 pub gps_to_utc_lem : OneAnswer gps_to_utc_contract.Post
 gps_to_utc_lem κ a x y e f p q = viewed dated_utc_tells x y p q

@@ -66,28 +66,16 @@ fn gps_at_offset(offset: i32, utc: u64) -> Result<u64, Refusal>
     sums::earlier(utc, Duration(utc_minus_gps(offset)))
 }
 
-fn count_or(answer: Result<u64, Refusal>, other: u64) -> u64
-    ensures { result ≡ value_in other (outcome_in answer) }
-{
-    match answer {
-        Ok(n) => n,
-        Err(_) => other,
-    }
-}
-
 fn first_reading(utc: u64) -> u64
     ensures { result ≡ first_reading utc }
 {
-    count_or(
-        sums::minus(utc, GPS_EPOCH_FROM_UTC_EPOCH_NS - TAI_MINUS_GPS_NS),
-        0,
-    )
+    sums::minus(utc, GPS_EPOCH_FROM_UTC_EPOCH_NS - TAI_MINUS_GPS_NS).unwrap_or(0)
 }
 
 fn second_reading(utc: u64, offset: i32, first: u64) -> u64
     ensures { result ≡ second_reading utc offset first }
 {
-    count_or(sums::earlier(utc, Duration(utc_minus_tai(offset))), first)
+    sums::earlier(utc, Duration(utc_minus_tai(offset))).unwrap_or(first)
 }
 
 // The TAI reading of a GPS count.
@@ -101,54 +89,40 @@ pub fn tai_of(gps: Result<u64, Refusal>) -> Result<u64, Refusal>
 pub fn reading_of(tai: Result<u64, Refusal>) -> u64
     ensures { result ≡ value_in 0 (outcome_in tai) }
 {
-    count_or(tai, 0)
-}
-
-fn utc_of_reading(found: Lookup, tai: Result<u64, Refusal>) -> Result<u64, Refusal>
-    ensures { outcome_in result ≡ utc_from_lookup (outcome_in tai) found }
-{
-    match tai {
-        Ok(reading) => utc_at_offset(found.offset, reading),
-        Err(why) => Err(why),
-    }
+    tai.unwrap_or(0)
 }
 
 // A TAI reading as UTC, by what a lookup there tells.
-pub fn utc_from_lookup(found: Result<Lookup, Refusal>, tai: Result<u64, Refusal>) -> Result<u64, Refusal>
+pub fn utc_from_lookup(
+    found: Result<Lookup, Refusal>,
+    tai: Result<u64, Refusal>,
+) -> Result<u64, Refusal>
     ensures { outcome_in result ≡ then (outcome_in found) (utc_from_lookup (outcome_in tai)) }
 {
-    match found {
-        Ok(lookup) => utc_of_reading(lookup, tai),
-        Err(why) => Err(why),
-    }
+    let lookup = found?;
+    utc_at_offset(lookup.offset, tai?)
 }
 
 // The TAI reading for the first lookup of a UTC count, 0 where there is none.
 pub fn first_reading_of(utc: Result<u64, Refusal>) -> u64
     ensures { result ≡ first_for (outcome_in utc) }
 {
-    match utc {
-        Ok(count) => first_reading(count),
-        Err(_) => 0,
-    }
+    utc.map_or(0, first_reading)
 }
 
 // The TAI reading for the last lookup, by what the first one told at `reading`.
 pub fn last_reading_of(utc: Result<u64, Refusal>, first: Lookup, reading: u64) -> u64
     ensures { result ≡ last_for (outcome_in utc) first reading }
 {
-    match utc {
-        Ok(count) => second_reading(count, first.offset, reading),
-        Err(_) => reading,
-    }
+    utc.map_or(
+        reading,
+        |count| second_reading(count, first.offset, reading),
+    )
 }
 
 // A UTC count as GPS, by what the last lookup tells.
 pub fn gps_from_lookup(found: Lookup, utc: Result<u64, Refusal>) -> Result<u64, Refusal>
     ensures { outcome_in result ≡ gps_from_lookup found (outcome_in utc) }
 {
-    match utc {
-        Ok(count) => gps_at_offset(found.offset, count),
-        Err(why) => Err(why),
-    }
+    gps_at_offset(found.offset, utc?)
 }

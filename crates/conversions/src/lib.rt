@@ -1,14 +1,11 @@
-// Conversions between GPS, UTC, GLONASS and Unix time by a leap-second table, after leap.rs. Scales that differ from GPS
-// by a fixed number of seconds have a file each.
+// Conversions between GPS, UTC, GLONASS and Unix time by a leap-second table, after leap.rs, and of scales that differ
+// from GPS by a fixed number of seconds.
 // Every call with a table refuses an invalid one with 8 before anything else, and tells whether the table is stale at
 // the TAI reading that was looked up last.
 #![tactic(auto)]
 
+pub mod by_table;
 pub mod inner;
-// shifted scales, by tools/write-scales
-pub mod beidou;
-pub mod galileo;
-// end of shifted scales
 
 ghost use Rattle.std.specs.Prelude.{◌≡◌, ◌+◌};
 ghost use Rattle.tables.specs.Answers.{dated_in};
@@ -22,28 +19,20 @@ ghost use Rattle.conversions.specs.Conversions.{gps_to_utc, last_reading, utc_to
 ghost use Rattle.conversions.specs.Conversions.{gps_to_glonass, unix_to_utc, unix_to_gps, gps_to_unix};
 ghost use Rattle.conversions.specs.Answers.{dated_gps_in, dated_utc_in, dated_glonass_in};
 
-use crate::inner::dated::Dated;
-use crate::inner::{by_table, dated, steps};
+use crate::inner::by_table::{gps_from_utc, utc_from_gps};
+use crate::inner::{dated, steps};
 use counts::unix;
 use refusals::Refusal;
 use scales::glonass::Glonass;
 use scales::gps::Gps;
 use scales::utc::Utc;
-use tables::LeapTable;
-
-
-
-
-
-
-
-
+use tables::{Dated, LeapTable};
 
 // Refuses 8, then 1, 9, 1: the table, the TAI reading, the offset, the result.
 pub fn gps_to_utc(gps: Gps, table: LeapTable) -> Dated<Utc>
     ensures { dated_utc_in result ≡ by_table table (gps.0 + tai_minus_gps) (gps_to_utc (entries_of table) gps.0) }
 {
-    Dated::of(by_table::utc_from_gps(Ok(gps.0), table))
+    dated::on_scale(utc_from_gps(Ok(gps.0), table))
 }
 
 // Refuses 8, then 9, 1: the table, the offset, the result. Where a UTC count repeats it is the first of two.
@@ -51,19 +40,19 @@ pub fn utc_to_gps(utc: Utc, table: LeapTable) -> Dated<Gps>
     ensures { dated_gps_in result ≡
         by_table table (last_reading (entries_of table) utc.0) (utc_to_gps (entries_of table) utc.0) }
 {
-    Dated::of(by_table::gps_from_utc(Ok(utc.0), table))
+    dated::on_scale(gps_from_utc(Ok(utc.0), table))
 }
 
 pub fn glonass_to_utc(glonass: Glonass) -> Result<Utc, Refusal>
     ensures { utc_in result ≡ up glonass_epoch glonass.0 }
 {
-    UtcAnswer::of(steps::utc_from_glonass(Ok(glonass.0)))
+    steps::utc_from_glonass(Ok(glonass.0)).map(Utc)
 }
 
 pub fn utc_to_glonass(utc: Utc) -> Result<Glonass, Refusal>
     ensures { glonass_in result ≡ down glonass_epoch utc.0 }
 {
-    GlonassAnswer::of(steps::glonass_from_utc(Ok(utc.0)))
+    steps::glonass_from_utc(Ok(utc.0)).map(Glonass)
 }
 
 // By way of UTC.
@@ -73,7 +62,7 @@ pub fn glonass_to_gps(glonass: Glonass, table: LeapTable) -> Dated<Gps>
         (glonass_to_gps (entries_of table) glonass.0) }
 {
     let utc = steps::utc_from_glonass(Ok(glonass.0));
-    Dated::of(by_table::gps_from_utc(utc, table))
+    dated::on_scale(gps_from_utc(utc, table))
 }
 
 // By way of UTC.
@@ -81,8 +70,8 @@ pub fn gps_to_glonass(gps: Gps, table: LeapTable) -> Dated<Glonass>
     ensures { dated_glonass_in result ≡
         by_table table (gps.0 + tai_minus_gps) (gps_to_glonass (entries_of table) gps.0) }
 {
-    let utc = by_table::utc_from_gps(Ok(gps.0), table);
-    Dated::of(dated::glonass_from_utc(utc))
+    let utc = utc_from_gps(Ok(gps.0), table);
+    dated::on_scale(dated::glonass_from_utc(utc))
 }
 
 // The GPS count of Unix seconds, by way of UTC.
@@ -91,12 +80,12 @@ pub fn gps_from_unix_seconds(seconds: i64, table: LeapTable) -> Dated<Gps>
         by_table table (last_reading (entries_of table) (value_in 0 (unix_to_utc seconds)))
         (unix_to_gps (entries_of table) seconds) }
 {
-    Dated::of(by_table::gps_from_utc(unix::from_unix_seconds(seconds), table))
+    dated::on_scale(gps_from_utc(unix::from_unix_seconds(seconds), table))
 }
 
 // The whole Unix seconds of a GPS count, by way of UTC.
 pub fn gps_as_unix_seconds(gps: Gps, table: LeapTable) -> Dated<i64>
     ensures { dated_in result ≡ by_table table (gps.0 + tai_minus_gps) (gps_to_unix (entries_of table) gps.0) }
 {
-    dated::unix_from_utc(by_table::utc_from_gps(Ok(gps.0), table))
+    dated::unix_from_utc(utc_from_gps(Ok(gps.0), table))
 }

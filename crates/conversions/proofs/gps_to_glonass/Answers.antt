@@ -12,6 +12,6 @@ pub returns : goal.returns
 returns c =
     let a = c.args in
     let t = a.table in
-    c.of.ensures ∙ c.glonass_from_utc.ensures
+    c.on_scale.ensures ∙ c.glonass_from_utc.ensures
     ∙ then-dated (stale_at t.expiry (a.gps.0 + tai_minus_gps)) (valid_table t) (gps_to_utc (entries_of t) a.gps.0)
     c.utc_from_gps-utc.ensures (down glonass_epoch)

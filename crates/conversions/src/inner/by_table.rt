@@ -11,12 +11,14 @@ ghost use Rattle.tables.specs.Expiry.{stale_at, dated, by_table};
 ghost use Rattle.conversions.specs.Conversions.{gps_to_utc, last_reading, utc_to_gps};
 ghost use Rattle.conversions.specs.Shifted.{later_of, shifted_to_utc, utc_to_shifted, shifted_reading};
 
-use crate::inner::dated::{Dated, date};
 use crate::inner::later::later_of;
-use crate::inner::{first_reading_of, gps_from_lookup, last_reading_of, reading_of, steps, tai_of, utc_from_lookup};
+use crate::inner::{
+    first_reading_of, gps_from_lookup, last_reading_of, reading_of, steps, tai_of, utc_from_lookup,
+};
 use counts::sums;
+use refusals::Refusal;
 use tables::inner::{checked_look_up, is_stale, look_up};
-use tables::LeapTable;
+use tables::{Dated, LeapTable};
 
 pub fn utc_from_gps(gps: Result<u64, Refusal>, table: LeapTable) -> Dated<u64>
     ensures { dated_in result ≡
@@ -27,7 +29,7 @@ pub fn utc_from_gps(gps: Result<u64, Refusal>, table: LeapTable) -> Dated<u64>
     let reading = reading_of(tai);
     let found = checked_look_up(&table.thresholds, &table.offsets, n, reading);
     let stale = is_stale(table.expiry, reading);
-    date(utc_from_lookup(found, tai), stale)
+    Dated::new(utc_from_lookup(found, tai), stale)
 }
 
 pub fn gps_from_utc(utc: Result<u64, Refusal>, table: LeapTable) -> Dated<u64>
@@ -42,9 +44,9 @@ pub fn gps_from_utc(utc: Result<u64, Refusal>, table: LeapTable) -> Dated<u64>
             let b = last_reading_of(utc, first, a);
             let found = look_up(&table.thresholds, &table.offsets, n, b);
             let stale = is_stale(table.expiry, b);
-            date(gps_from_lookup(found, utc), stale)
+            Dated::new(gps_from_lookup(found, utc), stale)
         }
-        Err(why) => date(Err(why), false),
+        Err(why) => Dated::new(Err(why), false),
     }
 }
 
@@ -65,7 +67,7 @@ pub fn shifted_by_later(gps: u64, table: LeapTable, behind: u64) -> Dated<u64>
 {
     let later = later_of(gps, table);
     let stale = is_stale(table.expiry, reading_of(tai_of(later)));
-    date(steps::down(later, behind), stale)
+    Dated::new(steps::down(later, behind), stale)
 }
 
 pub fn shifted_from_utc(utc: Result<u64, Refusal>, table: LeapTable, behind: u64) -> Dated<u64>
@@ -74,15 +76,9 @@ pub fn shifted_from_utc(utc: Result<u64, Refusal>, table: LeapTable, behind: u64
         (then (outcome_in utc) (utc_to_shifted behind (entries_of table))) }
 {
     let found = gps_from_utc(utc, table);
-    let first = found.answer;
-    match first {
-        Ok(gps) => {
-            if gps < behind {
-                shifted_by_later(gps, table, behind)
-            } else {
-                date(sums::minus(gps, behind), found.stale)
-            }
-        }
-        Err(why) => date(Err(why), false),
+    match found.answer {
+        Ok(gps) if gps < behind => shifted_by_later(gps, table, behind),
+        Ok(gps) => Dated::new(sums::minus(gps, behind), found.stale),
+        Err(why) => Dated::new(Err(why), false),
     }
 }

@@ -6,6 +6,7 @@ ghost use Rattle.counts.specs.Exact.{up, down};
 ghost use Rattle.conversions.specs.Conversions.{glonass_epoch, utc_to_unix};
 
 use counts::{sums, units, unix};
+use refusals::Refusal;
 
 // 1972-01-01 to 1995-12-31 21:00: 8,766 days of 86,400 s, less three hours
 const GLONASS_EPOCH_FROM_UTC_EPOCH_NS: u64 = 757_371_600 * units::NANOS_PER_SECOND;
@@ -14,20 +15,14 @@ const GLONASS_EPOCH_FROM_UTC_EPOCH_NS: u64 = 757_371_600 * units::NANOS_PER_SECO
 pub fn up(answer: Result<u64, Refusal>, difference: u64) -> Result<u64, Refusal>
     ensures { outcome_in result ≡ then (outcome_in answer) (up difference) }
 {
-    match answer {
-        Ok(n) => sums::plus(n, difference),
-        Err(why) => Err(why),
-    }
+    sums::plus(answer?, difference)
 }
 
 // A fixed difference taken away.
 pub fn down(answer: Result<u64, Refusal>, difference: u64) -> Result<u64, Refusal>
     ensures { outcome_in result ≡ then (outcome_in answer) (down difference) }
 {
-    match answer {
-        Ok(n) => sums::minus(n, difference),
-        Err(why) => Err(why),
-    }
+    sums::minus(answer?, difference)
 }
 
 pub fn utc_from_glonass(glonass: Result<u64, Refusal>) -> Result<u64, Refusal>
@@ -46,8 +41,5 @@ pub fn glonass_from_utc(utc: Result<u64, Refusal>) -> Result<u64, Refusal>
 pub fn unix_from_utc(utc: Result<u64, Refusal>) -> Result<i64, Refusal>
     ensures { outcome_in result ≡ changed utc_to_unix (outcome_in utc) }
 {
-    match utc {
-        Ok(count) => Ok(unix::as_unix_seconds(count)),
-        Err(why) => Err(why),
-    }
+    utc.map(unix::as_unix_seconds)
 }

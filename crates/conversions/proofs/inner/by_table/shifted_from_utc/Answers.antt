@@ -18,4 +18,4 @@ returns-in-Err c =
     (of_valid t (then utc (utc_to_gps (entries_of t)))) c.gps_from_utc-found.ensures in
     let counts = refused_too a.behind (valid_table t) (entries_of t) utc answer (ap outcome_in c.in-Err.is) in
     let reading = shifted_reading a.behind (entries_of t) (value_in 0 utc) in
-    c.date-in-Err.ensures ∙ (λ i. dated (stale_at t.expiry reading) (counts i))
+    c.new-in-Err.ensures ∙ (λ i. dated (stale_at t.expiry reading) (counts i))

@@ -16,5 +16,5 @@ returns c =
     c.reading_of-reading.ensures c.checked_look_up-found.ensures in
     let reads = c.is_stale-stale.ensures
     ∙ ap (stale_at x) (c.reading_of-reading.ensures ∙ ap (value_in 0) c.tai_of-tai.ensures) in
-    c.date.ensures ∙ (λ i. dated (reads i) (counts i))
+    c.new.ensures ∙ (λ i. dated (reads i) (counts i))
     ∙ at_gps x (valid_table a.table) (entries_of a.table) (outcome_in a.gps)
