@@ -1,5 +1,6 @@
 // BeiDou time: nanoseconds since 2006-01-01 in UTC, with no leap seconds.
 ghost use Rattle.scales.specs.Scales.{gps_minus_beidou};
+ghost use Rattle.std.specs.Prelude.{◌-◌, ◌^◌};
 ghost use Rattle.std.proofs.Common.{rules};
 
 use crate::behind_gps::BehindGps;
@@ -13,11 +14,19 @@ pub struct Beidou(pub u64);
 impl Scale for Beidou {
     ghost count = { λ t. t.0 };
 
+    ghost ends = { Prim.search rules };
+
     ghost tells = { Prim.search rules };
+
+    ghost EPOCH = { record { 0 = 0 } };
 
     const EPOCH: Beidou = Beidou(0);
 
+    ghost MIN = { record { 0 = 0 } };
+
     const MIN: Beidou = Beidou(0);
+
+    ghost MAX = { record { 0 = 2 ^ 64 - 1 } };
 
     const MAX: Beidou = Beidou(LARGEST_COUNT);
 

@@ -1,5 +1,6 @@
 // Galileo time: nanoseconds since 1999-08-22 on the clock of GPS, with no leap seconds.
 ghost use Rattle.scales.specs.Scales.{gps_minus_galileo};
+ghost use Rattle.std.specs.Prelude.{◌-◌, ◌^◌};
 ghost use Rattle.std.proofs.Common.{rules};
 
 use crate::behind_gps::BehindGps;
@@ -13,11 +14,19 @@ pub struct Galileo(pub u64);
 impl Scale for Galileo {
     ghost count = { λ t. t.0 };
 
+    ghost ends = { Prim.search rules };
+
     ghost tells = { Prim.search rules };
+
+    ghost EPOCH = { record { 0 = 0 } };
 
     const EPOCH: Galileo = Galileo(0);
 
+    ghost MIN = { record { 0 = 0 } };
+
     const MIN: Galileo = Galileo(0);
+
+    ghost MAX = { record { 0 = 2 ^ 64 - 1 } };
 
     const MAX: Galileo = Galileo(LARGEST_COUNT);
 

@@ -1,4 +1,5 @@
 // GLONASS time: nanoseconds since 1996-01-01 in Moscow, which is UTC and three hours.
+ghost use Rattle.std.specs.Prelude.{◌-◌, ◌^◌};
 ghost use Rattle.std.proofs.Common.{rules};
 
 use crate::scale::Scale;
@@ -10,11 +11,19 @@ pub struct Glonass(pub u64);
 impl Scale for Glonass {
     ghost count = { λ t. t.0 };
 
+    ghost ends = { Prim.search rules };
+
     ghost tells = { Prim.search rules };
+
+    ghost EPOCH = { record { 0 = 0 } };
 
     const EPOCH: Glonass = Glonass(0);
 
+    ghost MIN = { record { 0 = 0 } };
+
     const MIN: Glonass = Glonass(0);
+
+    ghost MAX = { record { 0 = 2 ^ 64 - 1 } };
 
     const MAX: Glonass = Glonass(LARGEST_COUNT);
 

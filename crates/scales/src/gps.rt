@@ -1,4 +1,5 @@
 // GPS time: nanoseconds since 1980-01-06, with no leap seconds.
+ghost use Rattle.std.specs.Prelude.{◌-◌, ◌^◌};
 ghost use Rattle.std.proofs.Common.{rules};
 
 use crate::scale::Scale;
@@ -11,11 +12,19 @@ pub struct Gps(pub u64);
 impl Scale for Gps {
     ghost count = { λ t. t.0 };
 
+    ghost ends = { Prim.search rules };
+
     ghost tells = { Prim.search rules };
+
+    ghost EPOCH = { record { 0 = 0 } };
 
     const EPOCH: Gps = Gps(0);
 
+    ghost MIN = { record { 0 = 0 } };
+
     const MIN: Gps = Gps(0);
+
+    ghost MAX = { record { 0 = 2 ^ 64 - 1 } };
 
     const MAX: Gps = Gps(LARGEST_COUNT);
 

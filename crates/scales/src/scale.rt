@@ -1,5 +1,5 @@
 // What every time scale has: counts of nanoseconds since its epoch, and the arithmetic on them.
-ghost use Rattle.std.specs.Prelude.{◌≡◌, ℕ, ◌*◌, ◌/◌, ◌%◌, pos, ◌+ℤ◌, ◌-ℤ◌};
+ghost use Rattle.std.specs.Prelude.{◌≡◌, ℕ, ◌-◌, ◌*◌, ◌/◌, ◌%◌, ◌^◌, pos, ◌+ℤ◌, ◌-ℤ◌};
 ghost use Rattle.refusals.specs.Outcome.{outcome_in, changed};
 ghost use Rattle.counts.specs.Exact.{count_of, duration_of, nearest_count};
 ghost use Rattle.counts.specs.Units.{second, parts_of};
@@ -13,9 +13,15 @@ use refusals::Refusal;
 pub trait Scale: Copy {
     ghost count: { Self → ℕ };
 
+    ghost EPOCH: { Self };
+
     const EPOCH: Self;
 
+    ghost MIN: { Self };
+
     const MIN: Self;
+
+    ghost MAX: { Self };
 
     const MAX: Self;
 
@@ -85,6 +91,9 @@ pub trait Scale: Copy {
     {
         sums::elapsed(self.as_nanos(), earlier.as_nanos())
     }
+
+    // Counts begin at 0, the epoch, and end at the largest number of 64 bits.
+    ghost ends: { (count EPOCH ≡ 0) × (count MIN ≡ 0) × (count MAX ≡ 2 ^ 64 - 1) };
 
     // A count tells which value of the scale it is.
     ghost tells: { (x y : Self) → count x ≡ count y → x ≡ y };

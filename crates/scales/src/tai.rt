@@ -1,4 +1,5 @@
 // TAI as this core reads it: nanoseconds since 19 s before the GPS epoch, with no leap seconds.
+ghost use Rattle.std.specs.Prelude.{◌-◌, ◌^◌};
 ghost use Rattle.std.proofs.Common.{rules};
 
 use crate::scale::Scale;
@@ -10,11 +11,19 @@ pub struct Tai(pub u64);
 impl Scale for Tai {
     ghost count = { λ t. t.0 };
 
+    ghost ends = { Prim.search rules };
+
     ghost tells = { Prim.search rules };
+
+    ghost EPOCH = { record { 0 = 0 } };
 
     const EPOCH: Tai = Tai(0);
 
+    ghost MIN = { record { 0 = 0 } };
+
     const MIN: Tai = Tai(0);
+
+    ghost MAX = { record { 0 = 2 ^ 64 - 1 } };
 
     const MAX: Tai = Tai(LARGEST_COUNT);
 

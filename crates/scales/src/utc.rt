@@ -1,4 +1,5 @@
 // UTC: nanoseconds since 1972-01-01, the inserted seconds not counted.
+ghost use Rattle.std.specs.Prelude.{◌-◌, ◌^◌};
 ghost use Rattle.std.proofs.Common.{rules};
 
 use crate::scale::Scale;
@@ -10,11 +11,19 @@ pub struct Utc(pub u64);
 impl Scale for Utc {
     ghost count = { λ t. t.0 };
 
+    ghost ends = { Prim.search rules };
+
     ghost tells = { Prim.search rules };
+
+    ghost EPOCH = { record { 0 = 0 } };
 
     const EPOCH: Utc = Utc(0);
 
+    ghost MIN = { record { 0 = 0 } };
+
     const MIN: Utc = Utc(0);
+
+    ghost MAX = { record { 0 = 2 ^ 64 - 1 } };
 
     const MAX: Utc = Utc(LARGEST_COUNT);
 
