@@ -23,7 +23,7 @@ pub fn try_from_slice(entries: &[u8]) -> Result<(), Refusal>
     if entries.len() % inner::ENTRY_BYTES != 0 {
         return Err(Refusal::BadTable);
     }
-    lent::inner::check(pass_over(entries, NO_READING))
+    pass_over(entries, NO_READING).check()
 }
 
 // The offset in force at a TAI reading. A list has no expiry, so it is never stale.
@@ -37,7 +37,7 @@ pub fn tai_minus_utc_at(entries: &[u8], tai: Tai) -> Dated<i32>
             stale: false,
         };
     }
-    lent::inner::in_force(pass_over(entries, tai.0))
+    pass_over(entries, tai.0).in_force()
 }
 
 // The number of entries.
@@ -47,7 +47,7 @@ pub fn len(entries: &[u8]) -> Result<usize, Refusal>
     if entries.len() % inner::ENTRY_BYTES != 0 {
         return Err(Refusal::BadTable);
     }
-    lent::inner::length(pass_over(entries, NO_READING))
+    pass_over(entries, NO_READING).length()
 }
 
 pub fn is_empty(entries: &[u8]) -> Result<bool, Refusal>
@@ -56,7 +56,7 @@ pub fn is_empty(entries: &[u8]) -> Result<bool, Refusal>
     if entries.len() % inner::ENTRY_BYTES != 0 {
         return Err(Refusal::BadTable);
     }
-    lent::inner::emptiness(pass_over(entries, NO_READING))
+    pass_over(entries, NO_READING).emptiness()
 }
 
 // The threshold of the last event: nothing where there is at most the first entry.
@@ -66,7 +66,7 @@ pub fn last_update(entries: &[u8]) -> Result<Option<Tai>, Refusal>
     if entries.len() % inner::ENTRY_BYTES != 0 {
         return Err(Refusal::BadTable);
     }
-    lent::inner::update(pass_over(entries, NO_READING))
+    pass_over(entries, NO_READING).update()
 }
 
 // The offset of the last entry, or 19.
@@ -76,5 +76,5 @@ pub fn current_tai_minus_utc(entries: &[u8]) -> Result<i32, Refusal>
     if entries.len() % inner::ENTRY_BYTES != 0 {
         return Err(Refusal::BadTable);
     }
-    lent::inner::current(pass_over(entries, NO_READING))
+    pass_over(entries, NO_READING).current()
 }

@@ -1,4 +1,3 @@
-pub mod ByAnswer
 pub mod Passing
 pub mod AnswersByPass
 pub mod Agreement

@@ -1,6 +1,6 @@
 -- The pass over a list, one entry on and as a whole: it counts the entries, keeps the last one and the one in force,
 -- and finds the first refusal.
-use Rattle.std.specs.Prelude.{Option, Some, ℤ}
+use Rattle.std.specs.Prelude.{Option, Some}
 use mathlib.Core.Path.{◌≡◌, refl, sym, ap, ◌∙◌}
 use mathlib.Core.Bool.{Bool, true, false, cond, ◌&&◌}
 use mathlib.Core.List.{List, [], ◌∷◌}

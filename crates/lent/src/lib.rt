@@ -12,6 +12,8 @@ ghost use Rattle.tables.specs.Slots.{extended};
 ghost use Rattle.tables.specs.Answers.{taken_in, update_in, dated_in};
 ghost use Rattle.lent.specs.Lists.{of_valid_list};
 
+use crate::inner::Pass;
+use refusals::Refusal;
 use scales::tai::Tai;
 use tables::{Dated, LeapEntry, LeapTable};
 
@@ -22,7 +24,7 @@ const NO_READING: u64 = 0;
 pub fn try_from_slice(entries: &[LeapEntry]) -> Result<(), Refusal>
     ensures { taken_in result ≡ checking entries.now }
 {
-    inner::check(inner::pass_over(entries, NO_READING))
+    Pass::over(entries, NO_READING).check()
 }
 
 // The offset in force at a TAI reading. A list has no expiry, so it is never stale.
@@ -30,28 +32,28 @@ pub fn tai_minus_utc_at(entries: &[LeapEntry], tai: Tai) -> Dated<i32>
     ensures { dated_in result ≡
         (of_valid_list entries.now (answered (offset_at entries.now tai.0)), false) }
 {
-    inner::in_force(inner::pass_over(entries, tai.0))
+    Pass::over(entries, tai.0).in_force()
 }
 
 // The number of entries.
 pub fn len(entries: &[LeapEntry]) -> Result<usize, Refusal>
     ensures { outcome_in result ≡ of_valid_list entries.now (answered (length entries.now)) }
 {
-    inner::length(inner::pass_over(entries, NO_READING))
+    Pass::over(entries, NO_READING).length()
 }
 
 pub fn is_empty(entries: &[LeapEntry]) -> Result<bool, Refusal>
     ensures { outcome_in result ≡
         of_valid_list entries.now (answered (eqb (length entries.now) 0)) }
 {
-    inner::emptiness(inner::pass_over(entries, NO_READING))
+    Pass::over(entries, NO_READING).emptiness()
 }
 
 // The threshold of the last event: nothing where there is at most the first entry.
 pub fn last_update(entries: &[LeapEntry]) -> Result<Option<Tai>, Refusal>
     ensures { update_in result ≡ of_valid_list entries.now (answered (last_update entries.now)) }
 {
-    inner::update(inner::pass_over(entries, NO_READING))
+    Pass::over(entries, NO_READING).update()
 }
 
 // The offset of the last entry, or 19.
@@ -59,7 +61,7 @@ pub fn current_tai_minus_utc(entries: &[LeapEntry]) -> Result<i32, Refusal>
     ensures { outcome_in result ≡
         of_valid_list entries.now (answered (current_offset entries.now)) }
 {
-    inner::current(inner::pass_over(entries, NO_READING))
+    Pass::over(entries, NO_READING).current()
 }
 
 // Joins an entry at the end of a lent table. On a refusal the table stays as it is, with all 64 slots and its expiry.

@@ -32,10 +32,10 @@ pub fn pass_over(entries: &[u8], tai: u64) -> Pass
         (eqb (taken_in result.answer) 0 ≡ valid (entries_in entries.now)) }
 {
     let n = entries.len() / ENTRY_BYTES;
-    let mut pass = lent::inner::begin(tai);
+    let mut pass = Pass::begin(tai);
     let mut i: usize = 0;
     while i < n {
-        pass = lent::inner::pass_on(pass, entry_from(entries, ENTRY_BYTES * i));
+        pass = pass.fold_in(entry_from(entries, ENTRY_BYTES * i));
         i += 1;
     }
     pass

@@ -5,5 +5,5 @@ use Rattle.lent.proofs.tai_minus_utc_at.Goals as goal
 
 pub returns : goal.returns
 returns c =
-    let told = in_force_read c.args.tai.0 c.args.entries.now c.pass_over.result c.pass_over.ensures in
+    let told = in_force_read c.args.tai.0 c.args.entries.now c.over.result c.over.ensures in
     c.in_force.ensures ∙ (λ i. (told i, false))

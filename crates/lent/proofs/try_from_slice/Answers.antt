@@ -4,4 +4,4 @@ use Rattle.lent.proofs.AnswersByPass.{check_read}
 use Rattle.lent.proofs.try_from_slice.Goals as goal
 
 pub returns : goal.returns
-returns c = c.check.ensures ∙ check_read 0 c.args.entries.now c.pass_over.result c.pass_over.ensures
+returns c = c.check.ensures ∙ check_read 0 c.args.entries.now c.over.result c.over.ensures

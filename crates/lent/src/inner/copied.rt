@@ -4,9 +4,11 @@ ghost use Rattle.tables.specs.Slots.{extended};
 ghost use Rattle.tables.specs.Answers.{table_answer_in};
 ghost use Rattle.lent.specs.Copied.{answers_in, answers_of};
 
-use crate::{current_tai_minus_utc, is_empty, last_update, len, tai_minus_utc_at, try_extend, try_from_slice};
+use crate::{
+    current_tai_minus_utc, is_empty, last_update, len, tai_minus_utc_at, try_extend, try_from_slice,
+};
+use refusals::Refusal;
 use scales::tai::Tai;
-use tables::inner::shorter;
 use tables::{Dated, LeapEntry, LeapTable, TableAnswer};
 
 // What each call answers for one list.
@@ -36,7 +38,7 @@ pub fn extended_in_place(table: LeapTable, entry: LeapEntry) -> TableAnswer
 pub fn answers_of_first(entries: [LeapEntry; 70], n: usize, tai: Tai) -> Answers
     ensures { answers_in result ≡ answers_of (take n entries) tai.0 }
 {
-    lent_to_all(entries, shorter(n, 70), tai)
+    lent_to_all(entries, n.min(70), tai)
 }
 
 fn lent_to_all(entries: [LeapEntry; 70], n: usize, tai: Tai) -> Answers

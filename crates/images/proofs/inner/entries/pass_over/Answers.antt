@@ -16,8 +16,8 @@ pub loop-i-preserved : goal.loop-i-preserved
 loop-i-preserved c =
     let b = c.args.entries.now in
     let s = c.loop-i in
-    let on : seen_in c.pass_on-pass.result ≡ after (seen_in s.pass) (first_in (drop (12 * s.i) b))
-    = c.pass_on-pass.ensures ∙ ap (after (seen_in s.pass)) c.entry_from.ensures.is in (
+    let on : seen_in c.fold_in-pass.result ≡ after (seen_in s.pass) (first_in (drop (12 * s.i) b))
+    = c.fold_in-pass.ensures ∙ ap (after (seen_in s.pass)) c.entry_from.ensures.is in (
       search rules,
       ap (λ (x : Seen). x.count) on ∙ counts-on (seen_in s.pass) (first_in (drop (12 * s.i) b))
           ∙ ap (λ (k : ℕ). k + 1) s.invariant.1,
