@@ -7,8 +7,6 @@ ghost use Rattle.counts.specs.Answers.{duration_in};
 use crate::Duration;
 use refusals::Refusal;
 
-const LARGEST_DURATION: u64 = i64::MAX as u64;
-
 // A duration by its sign: nanoseconds forward, or back.
 #[derive(Clone, Copy)]
 pub enum Step {
@@ -95,10 +93,9 @@ pub fn saturating_earlier(n: u64, d: Duration) -> u64
 pub fn forward(m: u64) -> Result<Duration, Refusal>
     ensures { duration_in result ≡ duration_of (pos m) }
 {
-    if m <= LARGEST_DURATION {
-        Ok(Duration(m as i64))
-    } else {
-        Err(Refusal::Overflow)
+    match i64::try_from(m) {
+        Ok(nanos) => Ok(Duration(nanos)),
+        Err(_) => Err(Refusal::Overflow),
     }
 }
 
@@ -106,11 +103,8 @@ pub fn forward(m: u64) -> Result<Duration, Refusal>
 pub fn backward(m: u64) -> Result<Duration, Refusal>
     ensures { duration_in result ≡ duration_of (negsuc m) }
 {
-    if m <= LARGEST_DURATION {
-        Ok(Duration(0 - (m as i64) - 1))
-    } else {
-        Err(Refusal::Overflow)
-    }
+    let Duration(nanos) = forward(m)?;
+    Ok(Duration(-1 - nanos))
 }
 
 // The duration from the count `start` to the count `end`.

@@ -16,8 +16,6 @@ pub const NANOS_PER_WEEK: u64 = SECONDS_PER_WEEK as u64 * NANOS_PER_SECOND;
 pub const NANOS_PER_YEAR: u64 = 31_536_000 * NANOS_PER_SECOND;
 
 pub const LARGEST_COUNT: u64 = u64::MAX;
-// 2^64 ns are 18,446,744,073.7 s
-const LARGEST_SECONDS: u64 = 18_446_744_073;
 
 // Whole seconds and the remaining nanoseconds.
 #[derive(Clone, Copy)]
@@ -30,11 +28,10 @@ pub struct DurationParts {
 pub fn from_seconds_and(seconds: u64, nanos: u64) -> Result<u64, Refusal>
     ensures { outcome_in result ≡ count_of (pos (seconds * second + nanos)) }
 {
-    if seconds <= LARGEST_SECONDS {
-        sums::plus(seconds * NANOS_PER_SECOND, nanos)
-    } else {
-        Err(Refusal::Overflow)
-    }
+    let whole = seconds
+        .checked_mul(NANOS_PER_SECOND)
+        .ok_or(Refusal::Overflow)?;
+    sums::plus(whole, nanos)
 }
 
 // The count of whole seconds.
@@ -60,10 +57,9 @@ impl DurationParts {
         ensures { outcome_in result ≡ parts_from seconds nanos }
     {
         if NANOS_PER_SECOND <= nanos as u64 {
-            Err(Refusal::InvalidNanos)
-        } else {
-            Ok(DurationParts { seconds, nanos })
+            return Err(Refusal::InvalidNanos);
         }
+        Ok(DurationParts { seconds, nanos })
     }
 }
 

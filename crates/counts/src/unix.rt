@@ -20,13 +20,7 @@ pub fn from_unix_seconds(seconds: i64) -> Result<u64, Refusal>
     ensures { outcome_in result ≡ count_of ((seconds -ℤ pos unix_offset) *ℤ pos second) }
 {
     match sums::by_sign(Duration(seconds)) {
-        Step::Forward(s) => {
-            if s < UTC_EPOCH_UNIX_OFFSET_S {
-                Err(Refusal::Overflow)
-            } else {
-                units::from_seconds(s - UTC_EPOCH_UNIX_OFFSET_S)
-            }
-        }
+        Step::Forward(s) => units::from_seconds(sums::minus(s, UTC_EPOCH_UNIX_OFFSET_S)?),
         Step::Back(_) => Err(Refusal::Overflow),
     }
 }
@@ -50,9 +44,7 @@ pub fn as_unix_seconds(count: u64) -> i64
 pub fn as_unix_nanos(count: u64) -> i64
     ensures { result ≡ pos (min (count + unix_offset * second) (2 ^ 63 - 1)) }
 {
-    if count <= LARGEST_SIGNED - UTC_EPOCH_UNIX_OFFSET_NS {
-        (count + UTC_EPOCH_UNIX_OFFSET_NS) as i64
-    } else {
-        i64::MAX
-    }
+    count
+        .saturating_add(UTC_EPOCH_UNIX_OFFSET_NS)
+        .min(LARGEST_SIGNED) as i64
 }

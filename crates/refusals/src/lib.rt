@@ -4,47 +4,47 @@
 ghost use Rattle.std.specs.Prelude.{◌≡◌};
 ghost use Rattle.refusals.specs.Number.{number_of};
 
-// Why a call gives no answer.
-#[derive(Clone, Copy)]
+// Why a call gives no answer. Hosts and programs are given its number.
+#[derive(Clone, Copy, Debug, PartialEq, Eq, Hash)]
 pub enum Refusal {
     // the exact result, or a count on the way to it, does not fit its type
-    Overflow,
+    Overflow = 1,
     // seconds of a day or week that make a whole one or more
-    InvalidSeconds,
+    InvalidSeconds = 2,
     // a threshold that is not above the one before
-    NotStrictlyAscending,
+    NotStrictlyAscending = 3,
     // an offset that is not one more than the one before
-    NonUnitIncrement,
+    NonUnitIncrement = 4,
     // 64 entries already, or a list of more than 64
-    BufferFull,
+    BufferFull = 5,
     // a list of no entries to build from or to check
-    EmptyTable,
+    EmptyTable = 6,
     // the offset before is the largest
-    OffsetOverflow,
+    OffsetOverflow = 7,
     // a table that is not valid
-    BadTable,
+    BadTable = 8,
     // the offset used last is too low
-    OffsetRange,
+    OffsetRange = 9,
     // a program's line that breaks its form
-    BadLine,
+    BadLine = 10,
     // nanoseconds that make a second or more
-    InvalidNanos,
+    InvalidNanos = 11,
     // a leap-seconds.list that is too long, has a malformed line, or has entries but none with offset 19
-    BadList,
+    BadList = 12,
     // a table to read civil times by that is not regular, or an entry after its first that does not begin a day
-    NotOnDays,
+    NotOnDays = 13,
     // fields with second 60 that are the civil reading of no GPS count
-    NoInsertedSecond,
+    NoInsertedSecond = 14,
     // a month that is not 1 to 12
-    NoSuchMonth,
+    NoSuchMonth = 15,
     // a day that its month does not have
-    NoSuchDay,
+    NoSuchDay = 16,
     // an hour above 23
-    NoSuchHour,
+    NoSuchHour = 17,
     // a minute above 59
-    NoSuchMinute,
+    NoSuchMinute = 18,
     // a second above 60
-    NoSuchSecond,
+    NoSuchSecond = 19,
 }
 
 impl Refusal {
@@ -52,26 +52,6 @@ impl Refusal {
     pub fn number(self) -> u32
         ensures { result ≡ number_of self }
     {
-        match self {
-            Refusal::Overflow => 1,
-            Refusal::InvalidSeconds => 2,
-            Refusal::NotStrictlyAscending => 3,
-            Refusal::NonUnitIncrement => 4,
-            Refusal::BufferFull => 5,
-            Refusal::EmptyTable => 6,
-            Refusal::OffsetOverflow => 7,
-            Refusal::BadTable => 8,
-            Refusal::OffsetRange => 9,
-            Refusal::BadLine => 10,
-            Refusal::InvalidNanos => 11,
-            Refusal::BadList => 12,
-            Refusal::NotOnDays => 13,
-            Refusal::NoInsertedSecond => 14,
-            Refusal::NoSuchMonth => 15,
-            Refusal::NoSuchDay => 16,
-            Refusal::NoSuchHour => 17,
-            Refusal::NoSuchMinute => 18,
-            Refusal::NoSuchSecond => 19,
-        }
+        self as u32
     }
 }
