@@ -18,9 +18,8 @@ ghost use Rattle.conversions.specs.Shifted.{later_of};
 ghost use Rattle.images.specs.Image.{numbers_in, image_bytes, table_in, image_of, stored};
 
 use conversions::inner::by_table;
-use conversions::inner::dated::Dated;
 use refusals::Refusal;
-use tables::{LeapTable, NO_EXPIRY, RUNTIME_CAPACITY, TableAnswer};
+use tables::{Dated, LeapTable, NO_EXPIRY, RUNTIME_CAPACITY, TableAnswer};
 use words::inner::{complement, number_in_4, number_in_8, put_number, signed};
 
 pub const LENGTH_BYTES: usize = 8;

@@ -17,8 +17,9 @@ ghost use Rattle.images.specs.Image.{table_in, image_extended, image_expiring};
 use crate::inner;
 use crate::inner::lookup::is_valid;
 use crate::inner::{lookup, slots};
-use conversions::inner::dated::{Dated, date};
-use conversions::inner::{first_reading_of, gps_from_lookup, last_reading_of, reading_of, steps, tai_of, utc_from_lookup};
+use conversions::inner::{
+    first_reading_of, gps_from_lookup, last_reading_of, reading_of, steps, tai_of, utc_from_lookup,
+};
 use counts::sums;
 use refusals::Refusal;
 use scales::tai::Tai;
@@ -161,7 +162,7 @@ pub fn tai_minus_utc_at(image: &[u8], tai: Tai) -> Dated<i32>
         dated_by_image image.now (λ es. tai.0) (λ es. answered (offset_at es tai.0)) }
 {
     let found = lookup::checked_look_up(image, tai.0);
-    dated_in(found, slots::expiry(image), tai.0)
+    dated_offset_in(found, slots::expiry(image), tai.0)
 }
 
 // The TAI reading from which on the table is stale, or nothing.
@@ -204,7 +205,7 @@ pub fn utc_from_gps(gps: Result<u64, Refusal>, image: &[u8]) -> Dated<u64>
     let reading = reading_of(tai);
     let stale = is_stale(slots::expiry(image), reading);
     let found = lookup::checked_look_up(image, reading);
-    date(utc_from_lookup(found, tai), stale)
+    Dated::new(utc_from_lookup(found, tai), stale)
 }
 
 // Refuses 8, then what the step before refused, then 9, 1: the table, the offset, the result. Where a UTC count repeats
@@ -220,9 +221,9 @@ pub fn gps_from_utc(utc: Result<u64, Refusal>, image: &[u8]) -> Dated<u64>
             let b = last_reading_of(utc, first, a);
             let found = lookup::look_up(image, b);
             let stale = is_stale(slots::expiry(image), b);
-            date(gps_from_lookup(found, utc), stale)
+            Dated::new(gps_from_lookup(found, utc), stale)
         }
-        Err(why) => date(Err(why), false),
+        Err(why) => Dated::new(Err(why), false),
     }
 }
 
@@ -248,9 +249,9 @@ pub fn shifted_from_utc(utc: Result<u64, Refusal>, image: &[u8], behind: u64) ->
             if gps < behind {
                 inner::shifted_by_later(image, gps, behind)
             } else {
-                date(sums::minus(gps, behind), found.stale)
+                Dated::new(sums::minus(gps, behind), found.stale)
             }
         }
-        Err(why) => date(Err(why), false),
+        Err(why) => Dated::new(Err(why), false),
     }
 }

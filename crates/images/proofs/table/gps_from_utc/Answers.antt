@@ -27,6 +27,6 @@ returns-in-Ok c =
     ∙ gps_from_store (holds b) es (outcome_in a.utc) fa told c.last_reading_of-b.ensures c.look_up-found.ensures in
     let reads = c.is_stale-stale.ensures
     ∙ (λ i. stale_at ((c.expiry.ensures ∙ of_image b k.size) i) c.last_reading_of-b.result) in
-    c.date.ensures ∙ (λ i. dated (reads i) (counts i))
+    c.new.ensures ∙ (λ i. dated (reads i) (counts i))
     ∙ at-utc (table_in b).expiry (holds b) es (outcome_in a.utc) fa told c.last_reading_of-b.ensures
     ∙ sym (in_one b (λ es. last_reading es (value_in 0 (outcome_in a.utc))) (λ es. then (outcome_in a.utc) (utc_to_gps es)))

@@ -7,5 +7,5 @@ use Rattle.images.proofs.table.shifted_from_utc.Goals as goal
 pub returns-in-Err : goal.returns-in-Err
 returns-in-Err c =
     let a = c.args in
-    c.date-in-Err.ensures
+    c.new-in-Err.ensures
     ∙ none_found a.image.now a.behind (outcome_in a.utc) c.gps_from_utc-found.ensures (ap outcome_in c.in-Err.is)

@@ -26,7 +26,7 @@ returns c =
     ∙ sym (one_test b _) in
     let reads = c.is_stale-stale.ensures
     ∙ (λ i. stale_at (c.expiry.ensures i) ((c.reading_of-reading.ensures ∙ ap (value_in 0) c.tai_of-tai.ensures) i)) in
-    c.date.ensures ∙ (λ i. dated (reads i) (counts i))
+    c.new.ensures ∙ (λ i. dated (reads i) (counts i))
     ∙ read_as_none b (λ es. first) (λ es. then gps (gps_to_utc es))
     ∙ in_one b (λ es. first) (λ es. then gps (gps_to_utc es))
     ∙ at_gps (table_in b).expiry (holds b) es gps
