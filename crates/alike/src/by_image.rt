@@ -4,7 +4,7 @@ ghost use Rattle.refusals.specs.Outcome.{outcome_in};
 ghost use Rattle.images.specs.Image.{by_image};
 ghost use Rattle.alike.specs.Alike.{alike};
 
-use crate::by_value;
+use crate::{Alike, by_value};
 use images::inner::{IMAGE_BYTES, table_in};
 use refusals::Refusal;
 

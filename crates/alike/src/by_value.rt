@@ -4,7 +4,7 @@ ghost use Rattle.refusals.specs.Outcome.{outcome_in};
 ghost use Rattle.tables.specs.Slots.{entries_of, of_valid};
 ghost use Rattle.alike.specs.Alike.{alike};
 
-use crate::inner;
+use crate::{Alike, inner};
 use refusals::Refusal;
 use tables::LeapTable;
 use tables::inner::is_valid;

@@ -7,7 +7,7 @@ ghost use Rattle.alike.specs.Alike.{same_entry, earlier, counts, counts_from, pa
 ghost use Rattle.alike.specs.declared.Alike.TheVariants as how;
 
 use crate::{Alike, Counts};
-use conversions::inner::{steps, utc_minus_tai};
+use conversions::inner::utc_minus_tai;
 use counts::{Duration, sums, units};
 use refusals::Refusal;
 use scales::gps_tai::TAI_MINUS_GPS_NS;
@@ -21,7 +21,6 @@ pub enum Parting {
     Onward(LeapEntry),
     Apart(LeapEntry),
 }
-
 
 fn same_entry(one: LeapEntry, other: LeapEntry) -> bool
     ensures { result ≡ same_entry one other }
@@ -75,50 +74,21 @@ pub fn both_regular(old: LeapTable, new: LeapTable) -> bool
     requires value_2 { valid_table new ≡ true }
     ensures { result ≡ regular (entries_of old) && regular (entries_of new) }
 {
-    if !is_regular(&old.thresholds, &old.offsets, old.len) {
-        return false;
-    }
-    is_regular(&new.thresholds, &new.offsets, new.len)
+    is_regular(&old.thresholds, &old.offsets, old.len)
+        && is_regular(&new.thresholds, &new.offsets, new.len)
 }
 
 // The GPS count at an entry's threshold, and the UTC count one second past its event.
 fn counts_from(entry: LeapEntry) -> Result<Counts, Refusal>
     ensures { outcome_in result ≡ counts_from entry }
 {
-    let shift = utc_minus_tai(entry.tai_minus_utc);
-    let event = sums::later(entry.tai_nanos, Duration(shift));
-    let past = steps::up(event, units::NANOS_PER_SECOND);
-    match sums::minus(entry.tai_nanos, TAI_MINUS_GPS_NS) {
-        Ok(gps) => with_utc(gps, past),
-        Err(why) => Err(why),
-    }
-}
-
-fn with_utc(gps: u64, utc: Result<u64, Refusal>) -> Result<Counts, Refusal>
-    ensures { outcome_in result ≡ changed (counts gps) (outcome_in utc) }
-{
-    match utc {
-        Ok(utc) => Ok(Counts { gps, utc }),
-        Err(why) => Err(why),
-    }
-}
-
-fn before(found: Result<Counts, Refusal>) -> Result<Alike, Refusal>
-    ensures { outcome_in result ≡ changed how.Before (outcome_in found) }
-{
-    match found {
-        Ok(counts) => Ok(Alike::Before(counts)),
-        Err(why) => Err(why),
-    }
-}
-
-fn apart(found: Result<Counts, Refusal>) -> Result<Alike, Refusal>
-    ensures { outcome_in result ≡ changed how.Apart (outcome_in found) }
-{
-    match found {
-        Ok(counts) => Ok(Alike::Apart(counts)),
-        Err(why) => Err(why),
-    }
+    let gps = sums::minus(entry.tai_nanos, TAI_MINUS_GPS_NS)?;
+    let event = sums::later(
+        entry.tai_nanos,
+        Duration(utc_minus_tai(entry.tai_minus_utc)),
+    )?;
+    let utc = sums::plus(event, units::NANOS_PER_SECOND)?;
+    Ok(Counts { gps, utc })
 }
 
 // What is told of where two lists part, which are both regular or not.
@@ -127,19 +97,8 @@ pub fn told(regular: bool, at: Parting) -> Result<Alike, Refusal>
 {
     match at {
         Parting::Nowhere => Ok(Alike::Everywhere),
-        Parting::Onward(entry) => {
-            if regular {
-                before(counts_from(entry))
-            } else {
-                Ok(Alike::Irregular)
-            }
-        }
-        Parting::Apart(entry) => {
-            if regular {
-                apart(counts_from(entry))
-            } else {
-                Ok(Alike::Irregular)
-            }
-        }
+        Parting::Onward(entry) if regular => Ok(Alike::Before(counts_from(entry)?)),
+        Parting::Apart(entry) if regular => Ok(Alike::Apart(counts_from(entry)?)),
+        _ => Ok(Alike::Irregular),
     }
 }

@@ -6,8 +6,6 @@ pub mod by_image;
 pub mod by_value;
 pub mod inner;
 
-use refusals::Refusal;
-
 // The first counts whose conversions may differ, in nanoseconds: a GPS count to UTC, and a UTC count to GPS.
 #[derive(Clone, Copy)]
 pub struct Counts {
@@ -27,4 +25,3 @@ pub enum Alike {
     // nothing is said: one of two different tables is not regular
     Irregular,
 }
-
