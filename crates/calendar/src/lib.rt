@@ -24,7 +24,7 @@ const NANOS_PER_DAY: i64 = SECONDS_PER_DAY * NANOS_PER_SECOND as i64;
 const LEAST_YEAR: i32 = i32::MIN;
 
 // A date, with any fields.
-#[derive(Clone, Copy)]
+#[derive(Clone, Copy, Debug, PartialEq, Eq, Hash)]
 pub struct CivilDate {
     pub year: i32,
     pub month: u8,

@@ -28,7 +28,7 @@ const UTC_EPOCH_DAY: i64 = 730;
 const LAST_UNIX_DAY: i64 = UTC_EPOCH_DAY + 213_503;
 
 // A date and a time of day, with any fields.
-#[derive(Clone, Copy)]
+#[derive(Clone, Copy, Debug, PartialEq, Eq, Hash)]
 pub struct CivilDateTime {
     pub year: i32,
     pub month: u8,

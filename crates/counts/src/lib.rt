@@ -7,5 +7,5 @@ pub mod units;
 pub mod unix;
 
 // A signed number of nanoseconds.
-#[derive(Clone, Copy)]
+#[derive(Clone, Copy, Debug, PartialEq, Eq, PartialOrd, Ord, Hash)]
 pub struct Duration(pub i64);

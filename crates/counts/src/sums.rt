@@ -8,7 +8,7 @@ use crate::Duration;
 use refusals::Refusal;
 
 // A duration by its sign: nanoseconds forward, or back.
-#[derive(Clone, Copy)]
+#[derive(Clone, Copy, Debug, PartialEq, Eq, Hash)]
 pub enum Step {
     Forward(u64),
     Back(u64),

@@ -18,7 +18,7 @@ pub const NANOS_PER_YEAR: u64 = 31_536_000 * NANOS_PER_SECOND;
 pub const LARGEST_COUNT: u64 = u64::MAX;
 
 // Whole seconds and the remaining nanoseconds.
-#[derive(Clone, Copy)]
+#[derive(Clone, Copy, Debug, PartialEq, Eq, Hash)]
 pub struct DurationParts {
     pub seconds: u64,
     pub nanos: u32,

@@ -8,7 +8,7 @@ use crate::scale::Scale;
 use crate::weeks::Weeks;
 use counts::units::{LARGEST_COUNT, NANOS_PER_SECOND};
 
-#[derive(Clone, Copy)]
+#[derive(Clone, Copy, Debug, PartialEq, Eq, PartialOrd, Ord, Hash)]
 pub struct Beidou(pub u64);
 
 impl Scale for Beidou {

@@ -6,7 +6,7 @@ use crate::scale::Scale;
 use crate::weeks::Weeks;
 use counts::units::LARGEST_COUNT;
 
-#[derive(Clone, Copy)]
+#[derive(Clone, Copy, Debug, PartialEq, Eq, PartialOrd, Ord, Hash)]
 pub struct Gps(pub u64);
 
 impl Scale for Gps {
