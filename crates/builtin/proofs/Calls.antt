@@ -1,9 +1,6 @@
 -- Each call of this crate leaves one answer for each input.
--- shifted scales, by tools/write-scales
 pub mod Galileo
 pub mod Beidou
--- end of shifted scales
-
 use mathlib.Core.Path.{sym, ◌∙◌}
 use Rattle.refusals.proofs.Tells.{outcome_tells}
 use Rattle.refusals.proofs.OneAnswer.{OneAnswer, viewed}
@@ -18,8 +15,6 @@ use Rattle.builtin.proofs.glonass_to_gps.Reads as glonass_to_gps_contract
 use Rattle.builtin.proofs.gps_to_glonass.Reads as gps_to_glonass_contract
 use Rattle.builtin.proofs.gps_from_unix_seconds.Reads as gps_from_unix_seconds_contract
 use Rattle.builtin.proofs.gps_as_unix_seconds.Reads as gps_as_unix_seconds_contract
-use Rattle.scales.specs.declared.galileo.Galileo.{Galileo}
-use Rattle.scales.specs.declared.beidou.Beidou.{Beidou}
 
 pub from-builtin : OneAnswer from_builtin_contract.Post
 from-builtin κ a x y e f p q = p ∙ sym q

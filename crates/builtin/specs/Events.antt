@@ -1,7 +1,7 @@
 -- The entry of a leap-second event, from its UTC date and its new offset, and TAI − UTC at the epochs.
 use Rattle.std.specs.Prelude.{cond, List, [], ◌∷◌, ℕ, ◌+◌, ℤ, pos}
 use Rattle.std.specs.Int.Signed.{le_z}
-use Rattle.refusals.specs.Outcome.{Outcome, answered, refused, then}
+use Rattle.refusals.specs.Outcome.{Outcome, answered, then}
 use Rattle.counts.specs.Exact.{count_of}
 use Rattle.calendar.specs.Calendar.{Date}
 use Rattle.calendar.specs.Formula.{day_of}

@@ -16,7 +16,6 @@ use counts::{Duration, sums};
 use refusals::Refusal;
 use tables::LeapEntry;
 
-
 // The UTC count of a date's midnight.
 fn utc_at_midnight(date: CivilDate) -> Result<u64, Refusal>
     ensures { outcome_in result ≡ count_at (midnight (date_in date)) }
@@ -43,10 +42,7 @@ fn tai_at(utc: u64, offset: i32) -> Result<u64, Refusal>
 fn threshold(date: CivilDate, tai_minus_utc: i32) -> Result<u64, Refusal>
     ensures { outcome_in result ≡ event_threshold (date_in date) tai_minus_utc }
 {
-    match utc_at_midnight(date) {
-        Ok(utc) => tai_at(utc, tai_minus_utc),
-        Err(why) => Err(why),
-    }
+    tai_at(utc_at_midnight(date)?, tai_minus_utc)
 }
 
 // The entry of an event: 2017-01-01 and 37 give (1,167,264,037 s, 37). Any fields make a date, as in `to_utc_nanos`.
@@ -54,11 +50,8 @@ fn threshold(date: CivilDate, tai_minus_utc: i32) -> Result<u64, Refusal>
 pub fn entry_of_event(date: CivilDate, tai_minus_utc: i32) -> Result<LeapEntry, Refusal>
     ensures { outcome_in result ≡ entry_of_event (date_in date) tai_minus_utc }
 {
-    match threshold(date, tai_minus_utc) {
-        Ok(tai_nanos) => Ok(LeapEntry {
-            tai_nanos,
-            tai_minus_utc,
-        }),
-        Err(why) => Err(why),
-    }
+    Ok(LeapEntry {
+        tai_nanos: threshold(date, tai_minus_utc)?,
+        tai_minus_utc,
+    })
 }

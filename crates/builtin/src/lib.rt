@@ -2,13 +2,10 @@
 // since the GPS epoch (IERS Bulletin C). It is proved valid, so its calls test no table.
 #![tactic(auto)]
 
+pub mod by_builtin;
 pub mod epochs;
 pub mod events;
 pub mod inner;
-// shifted scales, by tools/write-scales
-pub mod beidou;
-pub mod galileo;
-// end of shifted scales
 
 ghost use Rattle.std.specs.Prelude.{◌≡◌};
 ghost use Rattle.refusals.specs.Outcome.{outcome_in};
@@ -21,6 +18,7 @@ ghost use Rattle.builtin.specs.Builtin.{builtin};
 use crate::inner::{by_utc, lookup};
 use conversions::inner::steps;
 use counts::unix;
+use refusals::Refusal;
 use scales::glonass::Glonass;
 use scales::gps::Gps;
 use scales::tai::Tai;
@@ -77,34 +75,34 @@ pub fn tai_minus_utc_at(tai: Tai) -> i32
 pub fn gps_to_utc(gps: Gps) -> Result<Utc, Refusal>
     ensures { utc_in result ≡ gps_to_utc builtin gps.0 }
 {
-    UtcAnswer::of(lookup::utc_from_gps(Ok(gps.0)))
+    lookup::utc_from_gps(Ok(gps.0)).map(Utc)
 }
 
 // Where a UTC count repeats it is the first of two.
 pub fn utc_to_gps(utc: Utc) -> Result<Gps, Refusal>
     ensures { gps_in result ≡ utc_to_gps builtin utc.0 }
 {
-    GpsAnswer::of(by_utc::gps_from_utc(Ok(utc.0)))
+    by_utc::gps_from_utc(Ok(utc.0)).map(Gps)
 }
 
 pub fn glonass_to_gps(glonass: Glonass) -> Result<Gps, Refusal>
     ensures { gps_in result ≡ glonass_to_gps builtin glonass.0 }
 {
     let utc = steps::utc_from_glonass(Ok(glonass.0));
-    GpsAnswer::of(by_utc::gps_from_utc(utc))
+    by_utc::gps_from_utc(utc).map(Gps)
 }
 
 pub fn gps_to_glonass(gps: Gps) -> Result<Glonass, Refusal>
     ensures { glonass_in result ≡ gps_to_glonass builtin gps.0 }
 {
     let utc = lookup::utc_from_gps(Ok(gps.0));
-    GlonassAnswer::of(steps::glonass_from_utc(utc))
+    steps::glonass_from_utc(utc).map(Glonass)
 }
 
 pub fn gps_from_unix_seconds(seconds: i64) -> Result<Gps, Refusal>
     ensures { gps_in result ≡ unix_to_gps builtin seconds }
 {
-    GpsAnswer::of(by_utc::gps_from_utc(unix::from_unix_seconds(seconds)))
+    by_utc::gps_from_utc(unix::from_unix_seconds(seconds)).map(Gps)
 }
 
 pub fn gps_as_unix_seconds(gps: Gps) -> Result<i64, Refusal>

@@ -7,12 +7,10 @@ pub mod image_utc_from_shifted
 pub mod image_shifted_from_utc
 pub mod image_gps_to_civil
 pub mod image_civil_to_gps
--- shifted scales, by tools/write-scales
 pub mod galileo_to_utc
 pub mod utc_to_galileo
 pub mod beidou_to_utc
 pub mod utc_to_beidou
--- end of shifted scales
 
 use Rattle.std.specs.Prelude.{◌≡◌}
 

@@ -11,6 +11,7 @@ ghost use Rattle.builtin.specs.Reached.{count_reached, past_events, past_at};
 use crate::inner::lookup;
 use conversions::inner;
 use counts::units::NANOS_PER_SECOND;
+use refusals::Refusal;
 use scales::gps_tai::TAI_MINUS_GPS_NS;
 use tables::Lookup;
 
@@ -45,8 +46,6 @@ fn look_up_last(utc: u64) -> Lookup
 pub fn gps_from_utc(utc: Result<u64, Refusal>) -> Result<u64, Refusal>
     ensures { outcome_in result ≡ then (outcome_in utc) (utc_to_gps builtin) }
 {
-    match utc {
-        Ok(count) => inner::gps_from_lookup(look_up_last(count), utc),
-        Err(why) => Err(why),
-    }
+    let count = utc?;
+    inner::gps_from_lookup(look_up_last(count), Ok(count))
 }

@@ -9,6 +9,7 @@ ghost use Rattle.builtin.specs.Builtin.{builtin};
 ghost use Rattle.builtin.specs.Reached.{InBucket, events_before, event_at, event_after, told_at};
 
 use conversions::inner;
+use refusals::Refusal;
 use tables::Lookup;
 
 // The threshold of each event: (its Unix second − 315,964,800 + the offset that begins) × 10⁹.
@@ -61,16 +62,7 @@ const LAST_BUCKET: u64 = 31;
 pub fn bucket_of(count: u64, start: u64) -> u64
     ensures { InBucket start count result }
 {
-    if count < start {
-        0
-    } else {
-        let bucket = (count - start) / BUCKET;
-        if bucket < LAST_BUCKET {
-            bucket
-        } else {
-            LAST_BUCKET
-        }
-    }
+    (count.saturating_sub(start) / BUCKET).min(LAST_BUCKET)
 }
 
 // How many events are before a bucket of readings. There is an arm for each of the 32 buckets, so that the compiler makes a
@@ -121,7 +113,7 @@ pub fn reached(threshold: u64, count: u64) -> u64
     ensures is { result ≡ cond (leb threshold count) 1 0 }
     ensures few { result ≤ 1 }
 {
-    if threshold <= count { 1 } else { 0 }
+    u64::from(threshold <= count)
 }
 
 // The threshold of an event, counted from 0, and 0 past the last. The arms are plain numbers, and there is one for each
@@ -158,12 +150,7 @@ pub fn event_threshold(event: u64) -> u64
 fn threshold_after(events: u64) -> Option<u64>
     ensures { result ≡ event_after events }
 {
-    let threshold = event_threshold(events);
-    if events < EVENTS {
-        Some(threshold)
-    } else {
-        None
-    }
+    (events < EVENTS).then_some(event_threshold(events))
 }
 
 // The last event at or before a reading, the first being 1; 0 before it.
@@ -194,12 +181,7 @@ pub fn entry_told(event: u64) -> Lookup
 pub fn utc_from_gps(gps: Result<u64, Refusal>) -> Result<u64, Refusal>
     ensures { outcome_in result ≡ then (outcome_in gps) (gps_to_utc builtin) }
 {
-    let tai = inner::tai_of(gps);
-    match tai {
-        Ok(reading) => {
-            let told = entry_told(event_at(reading));
-            inner::utc_from_lookup(Ok(told), tai)
-        }
-        Err(why) => Err(why),
-    }
+    let reading = inner::tai_of(gps)?;
+    let told = entry_told(event_at(reading));
+    inner::utc_from_lookup(Ok(told), Ok(reading))
 }

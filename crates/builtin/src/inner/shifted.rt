@@ -11,6 +11,7 @@ use crate::inner::lookup::utc_from_gps;
 use conversions::inner::later::later_of;
 use conversions::inner::steps;
 use counts::sums;
+use refusals::Refusal;
 
 pub fn utc_from_shifted(count: Result<u64, Refusal>, behind: u64) -> Result<u64, Refusal>
     ensures { outcome_in result ≡ then (outcome_in count) (shifted_to_utc behind builtin) }
@@ -39,15 +40,11 @@ fn by_parts(answer: Result<u64, Refusal>) -> Result<u64, Refusal>
 pub fn shifted_from_utc(utc: Result<u64, Refusal>, behind: u64) -> Result<u64, Refusal>
     ensures { outcome_in result ≡ then (outcome_in utc) (utc_to_shifted behind builtin) }
 {
-    match gps_from_utc(utc) {
-        Ok(gps) => {
-            if gps < behind {
-                by_parts(shifted_by_later(gps, behind))
-            } else {
-                sums::minus(gps, behind)
-            }
-        }
-        Err(why) => Err(why),
+    let gps = gps_from_utc(utc)?;
+    if gps < behind {
+        by_parts(shifted_by_later(gps, behind))
+    } else {
+        sums::minus(gps, behind)
     }
 }
 
@@ -56,14 +53,10 @@ pub fn shifted_from_utc(utc: Result<u64, Refusal>, behind: u64) -> Result<u64, R
 pub fn shifted_from_glonass(glonass: Result<u64, Refusal>, behind: u64) -> Result<u64, Refusal>
     ensures { outcome_in result ≡ then (outcome_in glonass) (glonass_to_shifted behind builtin) }
 {
-    match gps_from_utc(steps::utc_from_glonass(glonass)) {
-        Ok(gps) => {
-            if gps < behind {
-                by_parts(shifted_by_later(gps, behind))
-            } else {
-                sums::minus(gps, behind)
-            }
-        }
-        Err(why) => Err(why),
+    let gps = gps_from_utc(steps::utc_from_glonass(glonass))?;
+    if gps < behind {
+        by_parts(shifted_by_later(gps, behind))
+    } else {
+        sums::minus(gps, behind)
     }
 }

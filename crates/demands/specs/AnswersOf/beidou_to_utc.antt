@@ -1,8 +1,7 @@
--- Written by tools/write-scales from its template in tools/templates.
--- `conversions::beidou::beidou_to_utc`: what its contract says of the answer.
+-- `to_utc` of `conversions::ByTable` for `Beidou`: what its contract says of the answer.
 use Rattle.std.specs.Prelude.{Result}
 use Rattle.refusals.specs.declared.Refusal.{Refusal}
-use Rattle.conversions.proofs.beidou.beidou_to_utc.Reads as call
+use Rattle.conversions.proofs.by_table.BeidouByTable.to_utc.Reads as call
 use Rattle.demands.specs.AnswersOf.{About, OfAnswer}
 use Rattle.scales.specs.declared.utc.Utc.{Utc}
 

@@ -1,8 +1,7 @@
--- Written by tools/write-scales from its template in tools/templates.
--- `conversions::beidou::utc_to_beidou`: what its contract says of the answer.
+-- `Beidou::from_utc` of `conversions::ByTable`: what its contract says of the answer.
 use Rattle.std.specs.Prelude.{Result}
 use Rattle.refusals.specs.declared.Refusal.{Refusal}
-use Rattle.conversions.proofs.beidou.utc_to_beidou.Reads as call
+use Rattle.conversions.proofs.by_table.BeidouByTable.from_utc.Reads as call
 use Rattle.demands.specs.AnswersOf.{About, OfAnswer}
 use Rattle.scales.specs.declared.beidou.Beidou.{Beidou}
 

@@ -1,8 +1,7 @@
--- Written by tools/write-scales from its template in tools/templates.
--- `conversions::galileo::utc_to_galileo`: what its contract says of the answer.
+-- `Galileo::from_utc` of `conversions::ByTable`: what its contract says of the answer.
 use Rattle.std.specs.Prelude.{Result}
 use Rattle.refusals.specs.declared.Refusal.{Refusal}
-use Rattle.conversions.proofs.galileo.utc_to_galileo.Reads as call
+use Rattle.conversions.proofs.by_table.GalileoByTable.from_utc.Reads as call
 use Rattle.demands.specs.AnswersOf.{About, OfAnswer}
 use Rattle.scales.specs.declared.galileo.Galileo.{Galileo}
 
