@@ -1,12 +1,12 @@
 -- A number in bytes, read and written a byte at a time.
 use mathlib.Core.Path.{◌≡◌, refl, ap, ◌∙◌}
-use mathlib.Core.List.{List, reverse-append}
+use mathlib.Core.List.{List, ◌++◌, append_assoc, reverse-append}
 use Prim.Native.Nat.{ℕ, zero, suc, ◌+◌, ◌-◌, ◌*◌, ◌/◌, ◌%◌, ◌^◌, ◌≤◌, ◌<◌}
 use native.Mathlib.Nat.{pow-suc, pow-le-pow_right}
 use native.Mathlib.Omega.{arith}
 use lib.Dec.{lit<}
-use lib.ListN.{length, get_or, take, drop, set, length-drop}
-use lib.Seq.{sets, take-suc, drop-cons, get_or-drop}
+use lib.ListN.{length, get_or, take, drop, set}
+use lib.Seq.{take-suc, take-suc-set, drop-cons}
 use Rattle.words.specs.Words.{number_in, number_high_first, bytes_of}
 
 -- ---- low byte first, without a loop
@@ -45,13 +45,12 @@ module _ (b : List ℕ) where
 
 -- ---- high byte first, from the first byte to the last
 
-pub next_high : (b : List ℕ) (at i : ℕ) → at + i < length b
-    → number_high_first (take (i + 1) (drop at b)) ≡ number_high_first (take i (drop at b)) * 256 + get_or b (at + i) 0
+pub next_high : (b : List ℕ) (i : ℕ) → i < length b
+    → number_high_first (take (i + 1) b) ≡ number_high_first (take i b) * 256 + get_or b i 0
 unfolding number_in
-next_high b at i h =
-    let there : i < length (drop at b) = rw length-drop (omega arith) in
+next_high b i h =
     let more : i + 1 ≡ suc i = omega arith in
-    rw (more, take-suc (drop at b) i 0 there, reverse-append, get_or-drop) (omega arith)
+    rw (more, take-suc b i 0 h, reverse-append) (omega arith)
 
 pub byte_above : (n d i j : ℕ) → n < 256 ^ i → d < 256 → suc i ≡ j → n * 256 + d < 256 ^ j
 byte_above n d i j h l e = let p : 256 ^ j ≡ 256 ^ i * 256 = rw (← e, pow-suc) in omega arith
@@ -63,14 +62,14 @@ room_for_byte n k h l = omega (arith, pow-le-pow_right {n = 256} (lit< tt) l)
 -- ---- writing from the first byte to the last
 
 -- what is left to be written, one byte fewer
-pub byte-written : (out : List ℕ) (at width i rest : ℕ) → i < width
-    → sets (set out (at + i) (rest % 256)) (at + (i + 1)) (bytes_of (width - (i + 1)) (rest / 256))
-    ≡ sets out (at + i) (bytes_of (width - i) rest)
+pub byte-written : (b : List ℕ) (width i rest : ℕ) → i < length b → i < width
+    → take (i + 1) (set b i (rest % 256)) ++ bytes_of (width - (i + 1)) (rest / 256)
+    ≡ take i b ++ bytes_of (width - i) rest
 unfolding bytes_of
-byte-written out at width i rest h =
+byte-written b width i rest l h =
     let w : width - i ≡ suc (width - (i + 1)) = omega arith in
-    let p : at + (i + 1) ≡ suc (at + i) = omega arith in
-    rw (w, p)
+    let more : i + 1 ≡ suc i = omega arith in
+    rw (w, more, take-suc-set b i (rest % 256) l, append_assoc)
 
 pub bytes_count : (k n : ℕ) → length (bytes_of k n) ≡ k
 unfolding bytes_of

@@ -5,5 +5,4 @@ pub mod Stores
 pub mod Reading
 pub mod Writing
 pub mod WayBack
-pub mod FieldTurns
 pub mod Calls

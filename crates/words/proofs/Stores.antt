@@ -1,11 +1,13 @@
 -- Runs of stores into a list.
-use mathlib.Core.Path.{◌≡◌, refl, ap, ◌∙◌}
-use mathlib.Core.List.{List, [], ◌∷◌, ◌++◌}
+use mathlib.Core.Path.{◌≡◌, refl, sym, ap, ◌∙◌}
+use mathlib.Core.List.{List, [], ◌∷◌, ◌++◌, append_assoc}
 use Prim.Native.Nat.{ℕ, suc, ◌+◌, ◌<◌, ◌≤◌}
 use native.Mathlib.Nat.{add-zero}
 use native.Mathlib.Omega.{arith}
 use lib.ListN.{length, set}
-use lib.Seq.{sets, set_comm}
+use borrow.Rule.Slice.PartMut.{put_mid}
+use lib.Seq.{sets, set_comm, drop-drop}
+use Rattle.std.proofs.lemmas.List.Edits.{sets-eq}
 
 -- two runs, the second from where the first ends, are one
 pub sets_sets : (vs ws l : List ℕ) (i : ℕ) → sets (sets l i vs) (i + length vs) ws ≡ sets l i (vs ++ ws)
@@ -36,3 +38,7 @@ sets_apart (w ∷ ws) vs l p q h =
 -- a run before a run
 pub sets_before : (ws vs l : List ℕ) (p q : ℕ) → q ≡ p + length ws → sets (sets l q vs) p ws ≡ sets l p (ws ++ vs)
 sets_before ws vs l p q e = sets_apart ws vs l p q (omega arith) ∙ joined l p q ws vs refl e refl
+
+-- a part of a list put back
+pub part_put : (l vs : List ℕ) (at k : ℕ) → length vs ≡ k → at + k ≤ length l → put_mid at k l vs ≡ sets l at vs
+part_put l vs at k e h = sym (sets-eq vs l at (omega arith) ∙ rw (append_assoc, e, drop-drop))

@@ -8,10 +8,11 @@ use native.Mathlib.Nat.{pow-suc, add-zero, zero-add}
 use native.Mathlib.Omega.{arith}
 use borrow.Author.Tests.{leb-true, le-ltb, lt-ltb}
 use lib.Dec.{leb}
-use lib.ListN.{length}
+use lib.ListN.{length, get_or}
+use lib.Seq.{drop-cons}
 use Rattle.refusals.specs.Outcome.{answered}
 use Rattle.words.specs.Decimal.{is_digit, all_digits, value_from, value_of, count_read, in_digits, places_up_to, decimal}
-use Rattle.words.proofs.Reading.{a_digit, is_count}
+use Rattle.words.proofs.Reading.{ReadTo, a_digit, is_count}
 use Rattle.words.proofs.Writing.{digits_length}
 
 -- the halves of a test of two
@@ -27,6 +28,13 @@ second_half false false e = e
 pub digit_bounds : (b : ℕ) → is_digit b ≡ true → (48 ≤ b) × (b ≤ 57)
 digit_bounds b e =
     (leb-true 48 b (first_half (leb 48 b) (leb b 57) e), leb-true b 57 (second_half (leb 48 b) (leb b 57) e))
+
+-- the next byte for a reader of digits
+pub next_is_digit : {s : List ℕ} {value i : ℕ} → ReadTo s value i → i < length s → all_digits s ≡ true
+    → (48 ≤ get_or s i 0) × (get_or s i 0 ≤ 57)
+next_is_digit {s} {value} {i} r inside d =
+    let split = rw (r.digits, drop-cons s i 0 inside) at d in
+    digit_bounds (get_or s i 0) (first_half (is_digit (get_or s i 0)) _ split)
 
 value_snoc : (bs : List ℕ) (v b : ℕ) → value_from v (bs ++ (b ∷ [])) ≡ value_from v bs * 10 + (b - 48)
 value_snoc [] v b = refl

@@ -4,7 +4,6 @@ ghost use Rattle.refusals.specs.Outcome.{outcome_in};
 ghost use Rattle.words.specs.Decimal.{count_read};
 
 use crate::inner::digits::digit;
-use counts::units::LARGEST_COUNT;
 use refusals::Refusal;
 
 // The largest count has 20 digits.
@@ -14,32 +13,16 @@ const MOST_DIGITS: usize = 20;
 pub fn read_count(s: &[u8]) -> Result<u64, Refusal>
     ensures { outcome_in result ≡ count_read s.now }
 {
-    let n = s.len();
-    if n == 0 {
-        return Err(Refusal::BadLine);
-    }
-    if n > MOST_DIGITS {
+    if s.is_empty() || s.len() > MOST_DIGITS {
         return Err(Refusal::BadLine);
     }
     let mut value: u64 = 0;
-    let mut i: usize = 0;
-    while i < n {
-        let b = s[i];
-        if b < b'0' {
+    for b in s {
+        if !b.is_ascii_digit() {
             return Err(Refusal::BadLine);
         }
-        if b > b'9' {
-            return Err(Refusal::BadLine);
-        }
-        let digit = digit(b);
-        if value > LARGEST_COUNT / 10 {
-            return Err(Refusal::BadLine);
-        }
-        if digit > LARGEST_COUNT - value * 10 {
-            return Err(Refusal::BadLine);
-        }
-        value = value * 10 + digit;
-        i += 1;
+        let tens = value.checked_mul(10).ok_or(Refusal::BadLine)?;
+        value = tens.checked_add(digit(*b)).ok_or(Refusal::BadLine)?;
     }
     Ok(value)
 }

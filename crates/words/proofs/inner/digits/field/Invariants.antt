@@ -1,10 +1,7 @@
--- `field`. The invariant: the field's bytes from the i-th on say, after `value`, what all of them say.
-use Rattle.std.proofs.Common.{◌-◌}
-use Rattle.words.proofs.FieldTurns.{FieldTo}
+-- `field`. The invariant: the bytes from the next one on say, after `value`, what all of them say.
+use Rattle.std.proofs.Common.{◌<◌, ◌^◌}
+use Rattle.words.proofs.Reading.{ReadTo}
 use Rattle.words.proofs.inner.digits.field.Given as goal
 
-abbrev pub invariant-loop-i : goal.invariant-loop-i
-invariant-loop-i l = FieldTo l.s l.at l.width l.value l.i
-
-abbrev pub decreases-loop-i : goal.decreases-loop-i
-decreases-loop-i l = l.width - l.i
+abbrev pub invariant-loop-b : goal.invariant-loop-b
+invariant-loop-b l = ReadTo l.b-items l.value l.b-index × (l.value < 10 ^ l.b-index)

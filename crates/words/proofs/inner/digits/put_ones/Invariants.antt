@@ -4,6 +4,3 @@ use Rattle.words.proofs.inner.digits.put_ones.Given as goal
 
 abbrev pub invariant-loop-left : goal.invariant-loop-left
 invariant-loop-left l = Written l.fn.out l.at l.width l.n l.out l.left l.rest
-
-abbrev pub decreases-loop-left : goal.decreases-loop-left
-decreases-loop-left l = l.left
