@@ -11,16 +11,14 @@ use builtin::inner::lookup::{entry_told, event_at};
 use civil::CivilDateTime;
 use conversions::inner::{reading_of, steps, tai_of};
 use counts::units::NANOS_PER_SECOND;
+use refusals::Refusal;
 use scales::gps::Gps;
 
 pub fn gps_to_civil(gps: Gps) -> Result<CivilDateTime, Refusal>
     ensures { outcome_in result ≡ gps_to_civil builtin gps.0 }
 {
     let tai = tai_of(Ok(gps.0));
-    match tai {
-        Ok(reading) => read(entry_told(event_at(reading)), tai),
-        Err(why) => Err(why),
-    }
+    read(entry_told(event_at(tai?)), tai)
 }
 
 // The count of fields that exist. The later of the GPS counts that have a UTC count is a second before the first of those
@@ -45,8 +43,6 @@ fn count_of(fields: CivilDateTime) -> Result<u64, Refusal>
 pub fn civil_to_gps(fields: CivilDateTime) -> Result<Gps, Refusal>
     ensures { gps_in result ≡ civil_to_gps builtin fields }
 {
-    match fields.check() {
-        Ok(()) => GpsAnswer::of(count_of(fields)),
-        Err(why) => Err(why),
-    }
+    fields.check()?;
+    Ok(Gps(count_of(fields)?))
 }

@@ -8,15 +8,14 @@ ghost use Rattle.scales.specs.Scales.{tai_minus_gps};
 ghost use Rattle.images.specs.Image.{dated_by_image};
 ghost use Rattle.readings.specs.Readings.{gps_to_civil, civil_to_gps};
 
-use crate::inner::{back, date_reading, if_real, read};
-use crate::Dated;
+use crate::inner::{back, if_real, read};
 use civil::CivilDateTime;
-use conversions::inner::dated::{Dated, date};
 use conversions::inner::{first_reading_of, gps_from_lookup, last_reading_of, reading_of, tai_of};
 use images::inner::lookup::{checked_look_up, is_on_days, look_up};
 use images::inner::slots::expiry;
 use refusals::Refusal;
 use scales::gps::Gps;
+use tables::Dated;
 use tables::inner::is_stale;
 
 // Refuses 8, 13, then as GPS to UTC does.
@@ -29,12 +28,12 @@ pub fn gps_to_civil(gps: Gps, image: &[u8]) -> Dated<CivilDateTime>
     match checked_look_up(image, reading) {
         Ok(found) => {
             if !is_on_days(image) {
-                return date_reading(Err(Refusal::NotOnDays), false);
+                return Dated::new(Err(Refusal::NotOnDays), false);
             }
             let stale = is_stale(expiry(image), reading);
-            date_reading(read(found, tai), stale)
+            Dated::new(read(found, tai), stale)
         }
-        Err(why) => date_reading(Err(why), false),
+        Err(why) => Dated::new(Err(why), false),
     }
 }
 
@@ -51,15 +50,15 @@ pub fn civil_to_gps(fields: CivilDateTime, image: &[u8]) -> Dated<u64>
     match checked_look_up(image, a) {
         Ok(told) => {
             if !is_on_days(image) {
-                return date(Err(Refusal::NotOnDays), false);
+                return Dated::new(Err(Refusal::NotOnDays), false);
             }
             let b = last_reading_of(utc, told, a);
             let first = gps_from_lookup(look_up(image, b), utc);
             let found = look_up(image, reading_of(tai_of(first)));
             let gps = if_real(fields, back(fields, utc, first, found));
             let stale = is_stale(expiry(image), reading_of(tai_of(gps)));
-            date(gps, stale)
+            Dated::new(gps, stale)
         }
-        Err(why) => date(Err(why), false),
+        Err(why) => Dated::new(Err(why), false),
     }
 }

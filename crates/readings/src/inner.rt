@@ -1,19 +1,16 @@
 // What the stores share: a reading, and fields back to a count, by what a lookup tells.
 ghost use Rattle.std.specs.Prelude.{◌≡◌, ◌-◌};
-ghost use Rattle.tables.specs.Answers.{dated_in};
 ghost use Rattle.refusals.specs.Outcome.{value_in, then, changed, outcome_in};
 ghost use Rattle.counts.specs.Units.{second};
 ghost use Rattle.civil.specs.Real.{of_real};
-ghost use Rattle.tables.specs.Expiry.{dated};
 ghost use Rattle.conversions.specs.ByLookup.{utc_from_lookup};
 ghost use Rattle.readings.specs.Readings.{same_fields};
 ghost use Rattle.readings.specs.ByLookup.{near_before, in_first_second, sixty, reading_from, later_from, read_so_from, back_from};
 
-use crate::Dated;
 use civil::CivilDateTime;
 use conversions::inner::{reading_of, tai_of, utc_from_lookup};
-use counts::units::NANOS_PER_SECOND;
 use counts::sums;
+use counts::units::NANOS_PER_SECOND;
 use refusals::Refusal;
 use tables::Lookup;
 
@@ -30,29 +27,14 @@ fn near_before(next: Option<u64>, tai: u64) -> bool
     }
 }
 
-fn a_second_before(utc: u64) -> u64
-    ensures { result ≡ utc - second }
-{
-    if utc < NANOS_PER_SECOND {
-        0
-    } else {
-        utc - NANOS_PER_SECOND
-    }
-}
-
 // The fields of the second before a UTC count, with 60 in place of 59.
 fn sixty(utc: u64) -> CivilDateTime
     ensures { result ≡ sixty utc }
 {
-    let last = CivilDateTime::from_utc_nanos(a_second_before(utc));
+    let last = CivilDateTime::from_utc_nanos(utc.saturating_sub(NANOS_PER_SECOND));
     CivilDateTime {
-        year: last.year,
-        month: last.month,
-        day: last.day,
-        hour: last.hour,
-        minute: last.minute,
         second: last.second + 1,
-        nanos: last.nanos,
+        ..last
     }
 }
 
@@ -68,9 +50,8 @@ fn in_first_second(fields: CivilDateTime) -> bool
 fn reading_from(found: Lookup, tai: u64, utc: u64) -> CivilDateTime
     ensures { result ≡ reading_from found tai utc }
 {
-    let next = found.next;
     let fields = CivilDateTime::from_utc_nanos(utc);
-    if in_first_second(fields) && near_before(next, tai) {
+    if in_first_second(fields) && near_before(found.next, tai) {
         sixty(utc)
     } else {
         fields
@@ -82,22 +63,8 @@ pub fn read(found: Lookup, tai: Result<u64, Refusal>) -> Result<CivilDateTime, R
     ensures { outcome_in result ≡
         changed (reading_from found (value_in 0 (outcome_in tai))) (utc_from_lookup (outcome_in tai) found) }
 {
-    match utc_from_lookup(Ok(found), tai) {
-        Ok(utc) => Ok(reading_from(found, reading_of(tai), utc)),
-        Err(why) => Err(why),
-    }
-}
-
-fn same_fields(a: CivilDateTime, b: CivilDateTime) -> bool
-    ensures { result ≡ same_fields a b }
-{
-    (a.year == b.year)
-        & (a.month == b.month)
-        & (a.day == b.day)
-        & (a.hour == b.hour)
-        & (a.minute == b.minute)
-        & (a.second == b.second)
-        & (a.nanos == b.nanos)
+    let utc = utc_from_lookup(Ok(found), tai)?;
+    Ok(reading_from(found, reading_of(tai), utc))
 }
 
 // A GPS count that has this UTC count, if it is read as these fields.
@@ -111,14 +78,8 @@ fn read_so(
     ensures { outcome_in result ≡ read_so_from found tai utc fields (outcome_in gps) }
 {
     match gps {
-        Ok(count) => {
-            if same_fields(reading_from(found, tai, utc), fields) {
-                Ok(count)
-            } else {
-                Err(Refusal::NoInsertedSecond)
-            }
-        }
-        Err(_) => Err(Refusal::NoInsertedSecond),
+        Ok(_) if reading_from(found, tai, utc) == fields => gps,
+        _ => Err(Refusal::NoInsertedSecond),
     }
 }
 
@@ -126,16 +87,11 @@ fn read_so(
 fn later_from(found: Lookup, tai: u64, gps: Result<u64, Refusal>) -> Result<u64, Refusal>
     ensures { outcome_in result ≡ then (outcome_in gps) (later_from found tai) }
 {
-    let next = found.next;
-    match gps {
-        Ok(count) => {
-            if near_before(next, tai) {
-                sums::plus(count, NANOS_PER_SECOND)
-            } else {
-                Ok(count)
-            }
-        }
-        Err(why) => Err(why),
+    let count = gps?;
+    if near_before(found.next, tai) {
+        sums::plus(count, NANOS_PER_SECOND)
+    } else {
+        Ok(count)
     }
 }
 
@@ -160,24 +116,6 @@ pub fn back(
 pub fn if_real(fields: CivilDateTime, answer: Result<u64, Refusal>) -> Result<u64, Refusal>
     ensures { outcome_in result ≡ of_real fields (outcome_in answer) }
 {
-    match fields.check() {
-        Ok(()) => answer,
-        Err(why) => Err(why),
-    }
-}
-
-// A reading by a table that is stale or not. A refusal never is.
-pub fn date_reading(answer: Result<CivilDateTime, Refusal>, stale: bool) -> Dated<CivilDateTime>
-    ensures { dated_in result ≡ dated stale (outcome_in answer) }
-{
-    match answer {
-        Ok(fields) => Dated {
-            answer: Ok(fields),
-            stale,
-        },
-        Err(why) => Dated {
-            answer: Err(why),
-            stale: false,
-        },
-    }
+    fields.check()?;
+    answer
 }

@@ -5,8 +5,3 @@
 pub mod by_builtin;
 pub mod by_image;
 pub mod inner;
-
-use civil::CivilDateTime;
-use refusals::Refusal;
-
-

@@ -37,7 +37,7 @@ pub returns-then-not-is_on_days : goal.returns-then-not-is_on_days
 returns-then-not-is_on_days c =
     let b = c.args.image.now in
     let off : on_days (es b) ≡ false = sym c.is_on_days.ensures ∙ c.if-not-is_on_days.true in
-    c.date.ensures
+    c.new.ensures
     ∙ by_held b (λ es. value_in 0 (civil_to_gps es c.args.fields) + tai_minus_gps) (λ es. civil_to_gps es c.args.fields)
     (told_held b _ c.in-Ok.ensures) (rw off)
 
@@ -62,12 +62,12 @@ returns-else-not-is_on_days c =
     let reads = c.is_stale-stale.ensures
     ∙ (λ i. stale_at ((c.expiry.ensures ∙ of_image b k.size) i)
     ((c.reading_of-in-Ok.ensures ∙ ap (value_in 0) tai_is) i)) in
-    c.date-in-Ok.ensures
+    c.new-in-Ok.ensures
     ∙ by_held b (λ es. value_in 0 (civil_to_gps es fields) + tai_minus_gps) (λ es. civil_to_gps es fields) k
     ((λ i. dated (reads i) (counts i)) ∙ at-answer x (civil_to_gps (es b) fields) (has_reading (es b) on fields))
 
 pub returns-in-Err : goal.returns-in-Err
 returns-in-Err c =
-    c.date-in-Err.ensures
+    c.new-in-Err.ensures
     ∙ not_told c.args.image.now (λ es. value_in 0 (civil_to_gps es c.args.fields) + tai_minus_gps)
     (λ es. civil_to_gps es c.args.fields) _ c.in-Err.ensures

@@ -23,7 +23,7 @@ returns-then-not-is_on_days c =
     let b = c.args.image.now in
     let k = told_held b _ c.in-Ok.ensures in
     let off : on_days (es b) ≡ false = sym c.is_on_days.ensures ∙ c.if-not-is_on_days.true in
-    c.date_reading.ensures
+    c.new.ensures
     ∙ by_held b (λ es. c.args.gps.0 + tai_minus_gps) (λ es. gps_to_civil es c.args.gps.0) k (rw off)
 
 pub returns-else-not-is_on_days : goal.returns-else-not-is_on_days
@@ -39,11 +39,11 @@ returns-else-not-is_on_days c =
     let reads = c.is_stale-stale.ensures
     ∙ (λ i. stale_at ((c.expiry.ensures ∙ of_image b k.size) i)
     ((c.reading_of-reading.ensures ∙ ap (value_in 0) c.tai_of-tai.ensures) i)) in
-    c.date_reading-in-Ok.ensures
+    c.new-in-Ok.ensures
     ∙ by_held b (λ es. gps + tai_minus_gps) (λ es. gps_to_civil es gps) k
     ((λ i. dated (reads i) (fields i)) ∙ at_count x (es b) gps on)
 
 pub returns-in-Err : goal.returns-in-Err
 returns-in-Err c =
-    c.date_reading-in-Err.ensures
+    c.new-in-Err.ensures
     ∙ not_told c.args.image.now (λ es. c.args.gps.0 + tai_minus_gps) (λ es. gps_to_civil es c.args.gps.0) _ c.in-Err.ensures
