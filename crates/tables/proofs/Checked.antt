@@ -3,17 +3,19 @@
 use mathlib.Core.Path.{◌≡◌, refl, sym, ap}
 use mathlib.Core.Bool.{Bool, true, false, cond}
 use mathlib.Core.List.{List}
-use Prim.Native.Nat.{ℕ, ◌≤◌}
+use Prim.Native.Nat.{ℕ, ◌≤◌, ◌<◌}
 use native.Mathlib.Omega.{arith}
 use borrow.Author.Tests.{leb-true}
 use lib.Dec.{leb}
 use lib.ListN.{length}
 use lib.IntN.{ℤ}
 use Rattle.refusals.specs.Outcome.{Outcome, answered, refused, refusal_in, value_in, then, changed}
-use Rattle.tables.specs.Entries.{valid}
-use Rattle.tables.specs.Slots.{slots, entries_of, valid_slots, valid_table, of_valid}
+use Rattle.tables.specs.Entries.{valid, join_refusal}
+use Rattle.tables.specs.Slots.{slots, entries_of, valid_slots, valid_table, of_valid, extension_refusal}
+use Rattle.tables.specs.declared.LeapEntry.{LeapEntry}
 use Rattle.tables.specs.declared.LeapTable.{LeapTable}
 use Rattle.tables.proofs.FirstSlots.{slots_length}
+use Rattle.tables.proofs.Growing.{has_room}
 use Rattle.tables.proofs.Neighbours.{both}
 
 pub few_and_valid : (xs : List ℕ) (zs : List ℤ) (n : ℕ) → valid_slots xs zs n ≡ true
@@ -68,3 +70,17 @@ module _ {A : Type 0} (a : A) where
       → refused k ≡ cond v o (refused 8)
   told_refusal true o e = cc
   told_refusal false o e = ap (λ (x : Outcome A). refused (refusal_in x)) e
+
+-- a table that takes an entry has room for it
+pub room_for : (t : LeapTable) (e : LeapEntry) → length t.thresholds ≡ 64 → length t.offsets ≡ 64
+    → 0 ≡ extension_refusal t e → t.len < 64
+room_for t e h h' z = by_test (valid_table t) refl z
+  where
+    by_test : (b : Bool) → valid_table t ≡ b → 0 ≡ cond b (join_refusal (entries_of t) e) 8 → t.len < 64
+    by_test true v z = let k = checked t h h' v in has_room t.thresholds t.offsets t.len e k.in_thresholds k.in_offsets z
+    by_test false v z = absurd (omega (arith, z))
+
+-- slots of a table tell that it is valid, and its list
+pub told : (t : LeapTable) {es : List LeapEntry} → answered es ≡ of_valid t (answered (entries_of t))
+    → (valid_table t ≡ true) × (es ≡ entries_of t)
+told t e = (told-valid (entries_of t) (valid_table t) e, told-answer (entries_of t) (valid_table t) e)

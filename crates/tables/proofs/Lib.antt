@@ -17,4 +17,5 @@ pub mod Reached
 pub mod OnDays
 pub mod Stale
 pub mod Tells
+pub mod Laid
 pub mod Calls

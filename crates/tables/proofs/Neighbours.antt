@@ -75,6 +75,15 @@ at_each test (p ∷ e ∷ es) d v zero l = (both (test p e) (neighbours test (e 
 at_each test (p ∷ e ∷ es) d v (suc k) l =
     at_each test (e ∷ es) d (both (test p e) (neighbours test (e ∷ es)) v).1 k (omega arith)
 
+-- and the facts at all places, turned into the test
+pub every_place : (test : Entry → Entry → Bool) (es : List Entry) (d : Entry)
+    → ((k : ℕ) → suc k < length es → test (get_or es k d) (get_or es (suc k) d) ≡ true) → neighbours test es ≡ true
+unfolding neighbours
+every_place test [] d each = refl
+every_place test (p ∷ []) d each = refl
+every_place test (p ∷ e ∷ es) d each =
+    rw (each 0 (omega arith)) (every_place test (e ∷ es) d (λ k l. each (suc k) (omega arith)))
+
 -- thresholds of a valid list rise
 pub thresholds_rise : (es : List Entry) (d : Entry) → valid es ≡ true → (i j : ℕ) → i < j → j < length es
     → threshold (get_or es i d) < threshold (get_or es j d)

@@ -1,6 +1,9 @@
 -- What an answer says in plain values tells which answer it is.
-use Rattle.std.specs.Prelude.{Option, Some, None, Result, Ok, Err}
+use Rattle.std.specs.Prelude.{Option, Some, None, Result, Ok, Err, is_ok}
 use mathlib.Core.Path.{◌≡◌, refl, sym, ap}
+use borrow.Author.Tests.{ne_eqb}
+use lib.Dec.{eqb}
+use Rattle.refusals.specs.Number.{number_of}
 use Rattle.tables.specs.declared.Dated.{Dated}
 use Rattle.refusals.specs.declared.Refusal.{Refusal}
 use Rattle.refusals.proofs.Tells.{outcome_tells, number_tells, number_not_zero}
@@ -15,6 +18,11 @@ taken_tells (Ok a) (Ok b) e = refl
 taken_tells (Ok tt) (Err r) e = absurd (number_not_zero r (sym e))
 taken_tells (Err r) (Ok tt) e = absurd (number_not_zero r e)
 taken_tells (Err r) (Err s) e = ap Err (number_tells r s e)
+
+-- what was given was taken exactly if the result is `Ok`
+pub done_told : (x : Result Unit Refusal) → is_ok x ≡ eqb (taken_in x) 0
+done_told (Ok tt) = refl
+done_told (Err r) = sym (ne_eqb (number_of r) 0 (number_not_zero r))
 
 -- the answer and the table
 pub extension_tells : (x y : TableAnswer) → table_answer_in x ≡ table_answer_in y → x ≡ y

@@ -19,7 +19,7 @@ use scales::tai::Tai;
 pub const RUNTIME_CAPACITY: usize = 64;
 
 // From the TAI reading `tai_nanos` on, TAI is `tai_minus_utc` seconds ahead of UTC.
-#[derive(Clone, Copy)]
+#[derive(Clone, Copy, Debug, PartialEq, Eq)]
 pub struct LeapEntry {
     pub tai_nanos: u64,
     pub tai_minus_utc: i32,

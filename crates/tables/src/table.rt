@@ -4,11 +4,12 @@ ghost use Rattle.std.proofs.Math.ListN.{get_elem?};
 ghost use Rattle.refusals.specs.Number.{number_of};
 ghost use Rattle.refusals.specs.Outcome.{answered, outcome_in};
 ghost use Rattle.tables.specs.Entries.{offset_at, current_offset, last_update};
-ghost use Rattle.tables.specs.Slots.{paired, entries_of, of_valid, table_of, extended, built};
+ghost use Rattle.tables.specs.Slots.{paired, entries_of, of_valid, table_of, extension_refusal, extended, built};
 ghost use Rattle.tables.specs.Expiry.{by_table, expiry_in, expiring};
-ghost use Rattle.tables.specs.Answers.{table_answer_in, entry_in, update_in, dated_in};
+ghost use Rattle.tables.specs.Answers.{taken_in, table_answer_in, entry_in, update_in, dated_in};
 
 use crate::{Dated, LeapEntry, LeapTable, NO_EXPIRY, RUNTIME_CAPACITY, TableAnswer, inner};
+use crate::inner::slots::Slots;
 use refusals::Refusal;
 use scales::tai::Tai;
 
@@ -36,8 +37,9 @@ impl LeapTable {
         if RUNTIME_CAPACITY < n {
             return unbuilt(Refusal::BufferFull);
         }
-        match inner::first_refusal(thresholds, offsets, n) {
-            Ok(()) => done(inner::table_of(thresholds, offsets, n)),
+        let (thresholds, offsets) = (&thresholds[..n], &offsets[..n]);
+        match inner::first_refusal(thresholds, offsets) {
+            Ok(()) => done(inner::table_of(thresholds, offsets)),
             Err(why) => unbuilt(why),
         }
     }
@@ -46,11 +48,7 @@ impl LeapTable {
     pub fn try_extend(self, entry: LeapEntry) -> TableAnswer
         ensures { table_answer_in result ≡ extended self entry }
     {
-        let n = self.len;
-        if !inner::is_valid(&self.thresholds, &self.offsets, n) {
-            return refused(Refusal::BadTable, self);
-        }
-        match inner::joins(&self.thresholds, &self.offsets, n, entry) {
+        match extends(&self, entry) {
             Ok(()) => done(inner::joined(self, entry)),
             Err(why) => refused(why, self),
         }
@@ -60,12 +58,7 @@ impl LeapTable {
     pub fn len(self) -> Result<usize, Refusal>
         ensures { outcome_in result ≡ of_valid self (answered (length (entries_of self))) }
     {
-        let n = self.len;
-        if inner::is_valid(&self.thresholds, &self.offsets, n) {
-            Ok(n)
-        } else {
-            Err(Refusal::BadTable)
-        }
+        Ok(Slots::of(&self)?.len())
     }
 
     pub fn is_empty(self) -> Result<bool, Refusal>
@@ -78,53 +71,33 @@ impl LeapTable {
     pub fn entry_at(self, place: usize) -> Result<Option<LeapEntry>, Refusal>
         ensures { entry_in result ≡ of_valid self (answered (get_elem? (entries_of self) place)) }
     {
-        let n = self.len;
-        if !inner::is_valid(&self.thresholds, &self.offsets, n) {
-            return Err(Refusal::BadTable);
-        }
-        if place < n {
-            Ok(Some(inner::slot(&self.thresholds, &self.offsets, place)))
-        } else {
-            Ok(None)
-        }
+        Ok(Slots::of(&self)?.get(place))
     }
 
     // The threshold of the last event: nothing where there is at most the first entry.
     pub fn last_update(self) -> Result<Option<Tai>, Refusal>
         ensures { update_in result ≡ of_valid self (answered (last_update (entries_of self))) }
     {
-        let n = self.len;
-        if !inner::is_valid(&self.thresholds, &self.offsets, n) {
-            return Err(Refusal::BadTable);
+        let slots = Slots::of(&self)?;
+        if slots.len() <= 1 {
+            return Ok(None);
         }
-        if 1 < n {
-            Ok(Some(Tai(self.thresholds[n - 1])))
-        } else {
-            Ok(None)
-        }
+        Ok(slots.last().map(|last| Tai(last.tai_nanos)))
     }
 
     // The offset of the last entry, or 19.
     pub fn current_tai_minus_utc(self) -> Result<i32, Refusal>
         ensures { outcome_in result ≡ of_valid self (answered (current_offset (entries_of self))) }
     {
-        let n = self.len;
-        if !inner::is_valid(&self.thresholds, &self.offsets, n) {
-            return Err(Refusal::BadTable);
-        }
-        if n == 0 {
-            Ok(inner::OFFSET_OF_NO_ENTRY)
-        } else {
-            Ok(self.offsets[n - 1])
-        }
+        let last = Slots::of(&self)?.last();
+        Ok(last.map_or(inner::OFFSET_OF_NO_ENTRY, |last| last.tai_minus_utc))
     }
 
     // The offset in force at a TAI reading, and whether the table is stale there.
     pub fn tai_minus_utc_at(self, tai: Tai) -> Dated<i32>
         ensures { dated_in result ≡ by_table self tai.0 (answered (offset_at (entries_of self) tai.0)) }
     {
-        let n = self.len;
-        let found = inner::checked_look_up(&self.thresholds, &self.offsets, n, tai.0);
+        let found = inner::checked_look_up(&self, tai.0);
         inner::dated_offset_in(found, self.expiry, tai.0)
     }
 
@@ -132,10 +105,7 @@ impl LeapTable {
     pub fn expiry(self) -> Result<Option<Tai>, Refusal>
         ensures { update_in result ≡ of_valid self (answered (expiry_in self)) }
     {
-        let n = self.len;
-        if !inner::is_valid(&self.thresholds, &self.offsets, n) {
-            return Err(Refusal::BadTable);
-        }
+        Slots::of(&self)?;
         if self.expiry == NO_EXPIRY {
             Ok(None)
         } else {
@@ -147,14 +117,21 @@ impl LeapTable {
     pub fn with_expiry(self, expiry: Tai) -> TableAnswer
         ensures { table_answer_in result ≡ expiring self expiry.0 }
     {
-        let n = self.len;
-        if !inner::is_valid(&self.thresholds, &self.offsets, n) {
-            return refused(Refusal::BadTable, self);
+        match Slots::of(&self) {
+            Ok(_) => done(LeapTable {
+                expiry: expiry.0,
+                ..self
+            }),
+            Err(why) => refused(why, self),
         }
-        let mut table = self;
-        table.expiry = expiry.0;
-        done(table)
     }
+}
+
+// Whether a table can be extended by an entry.
+fn extends(table: &LeapTable, entry: LeapEntry) -> Result<(), Refusal>
+    ensures { taken_in result ≡ extension_refusal table.now entry }
+{
+    Slots::of(table)?.joins(entry)
 }
 
 fn done(table: LeapTable) -> TableAnswer
