@@ -1,7 +1,7 @@
 // Where two lists of entries part, and the first counts that this may change.
-ghost use Rattle.std.specs.Prelude.{◌≡◌, true, ◌&&◌};
+ghost use Rattle.std.specs.Prelude.{◌≡◌, true, ◌&&◌, ◌<◌};
 ghost use Rattle.tables.specs.Entries.{regular};
-ghost use Rattle.tables.specs.Slots.{entries_of, valid_table};
+ghost use Rattle.tables.specs.Slots.{slot_at, entries_of, valid_table};
 ghost use Rattle.refusals.specs.Outcome.{changed, outcome_in};
 ghost use Rattle.alike.specs.Alike.{same_entry, earlier, counts, counts_from, parting, told};
 ghost use Rattle.alike.specs.declared.Alike.TheVariants as how;
@@ -11,7 +11,7 @@ use conversions::inner::utc_minus_tai;
 use counts::{Duration, sums, units};
 use refusals::Refusal;
 use scales::gps_tai::TAI_MINUS_GPS_NS;
-use tables::inner::{is_regular, slot};
+use tables::inner::slots::Slots;
 use tables::{LeapEntry, LeapTable};
 
 // Where two lists part: nowhere, at the first entry that one has after the other, or at the earlier of two that differ.
@@ -43,6 +43,14 @@ fn earlier(one: LeapEntry, other: LeapEntry) -> LeapEntry
     }
 }
 
+// The entry in slot i.
+fn slot(table: &LeapTable, i: usize) -> LeapEntry
+    requires { i < 64 }
+    ensures { result ≡ slot_at table.now.thresholds table.now.offsets i }
+{
+    LeapEntry::new(table.thresholds[i], table.offsets[i])
+}
+
 // Two valid tables, an entry at a time.
 pub fn parting_of(old: LeapTable, new: LeapTable) -> Parting
     requires value { valid_table old ≡ true }
@@ -53,18 +61,18 @@ pub fn parting_of(old: LeapTable, new: LeapTable) -> Parting
     let m = new.len;
     let mut i: usize = 0;
     while i < n {
-        let one = slot(&old.thresholds, &old.offsets, i);
+        let one = slot(&old, i);
         if m <= i {
             return Parting::Onward(one);
         }
-        let other = slot(&new.thresholds, &new.offsets, i);
+        let other = slot(&new, i);
         if !same_entry(one, other) {
             return Parting::Apart(earlier(one, other));
         }
         i += 1;
     }
     if i < m {
-        return Parting::Onward(slot(&new.thresholds, &new.offsets, i));
+        return Parting::Onward(slot(&new, i));
     }
     Parting::Nowhere
 }
@@ -74,8 +82,7 @@ pub fn both_regular(old: LeapTable, new: LeapTable) -> bool
     requires value_2 { valid_table new ≡ true }
     ensures { result ≡ regular (entries_of old) && regular (entries_of new) }
 {
-    is_regular(&old.thresholds, &old.offsets, old.len)
-        && is_regular(&new.thresholds, &new.offsets, new.len)
+    Slots::of_valid(&old).is_regular() && Slots::of_valid(&new).is_regular()
 }
 
 // The GPS count at an entry's threshold, and the UTC count one second past its event.

@@ -26,8 +26,6 @@ use scales::utc::Utc;
 use tables::LeapTable;
 use tables::inner::table_of;
 
-const LEN: usize = 19;
-
 // TAI readings in nanoseconds.
 pub const BUILTIN_THRESHOLDS: [u64; 19] = [
     0,
@@ -60,9 +58,7 @@ pub const BUILTIN_OFFSETS: [i32; 19] = [
 pub fn from_builtin() -> LeapTable
     ensures { result ≡ table_of builtin }
 {
-    let thresholds = BUILTIN_THRESHOLDS;
-    let offsets = BUILTIN_OFFSETS;
-    table_of(&thresholds, &offsets, LEN)
+    table_of(&BUILTIN_THRESHOLDS, &BUILTIN_OFFSETS)
 }
 
 // The offset in force at a TAI reading.

@@ -17,17 +17,17 @@ use crate::inner::{
 };
 use counts::sums;
 use refusals::Refusal;
-use tables::inner::{checked_look_up, is_stale, look_up};
+use tables::inner::slots::Slots;
+use tables::inner::{checked_look_up, is_stale};
 use tables::{Dated, LeapTable};
 
 pub fn utc_from_gps(gps: Result<u64, Refusal>, table: LeapTable) -> Dated<u64>
     ensures { dated_in result ≡
         by_table table (value_in 0 (outcome_in gps) + tai_minus_gps) (then (outcome_in gps) (gps_to_utc (entries_of table))) }
 {
-    let n = table.len;
     let tai = tai_of(gps);
     let reading = reading_of(tai);
-    let found = checked_look_up(&table.thresholds, &table.offsets, n, reading);
+    let found = checked_look_up(&table, reading);
     let stale = is_stale(table.expiry, reading);
     Dated::new(utc_from_lookup(found, tai), stale)
 }
@@ -37,12 +37,11 @@ pub fn gps_from_utc(utc: Result<u64, Refusal>, table: LeapTable) -> Dated<u64>
         by_table table (last_reading (entries_of table) (value_in 0 (outcome_in utc)))
         (then (outcome_in utc) (utc_to_gps (entries_of table))) }
 {
-    let n = table.len;
     let a = first_reading_of(utc);
-    match checked_look_up(&table.thresholds, &table.offsets, n, a) {
+    match checked_look_up(&table, a) {
         Ok(first) => {
             let b = last_reading_of(utc, first, a);
-            let found = look_up(&table.thresholds, &table.offsets, n, b);
+            let found = Slots::of_valid(&table).look_up(b);
             let stale = is_stale(table.expiry, b);
             Dated::new(gps_from_lookup(found, utc), stale)
         }

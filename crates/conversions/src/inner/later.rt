@@ -9,14 +9,14 @@ use crate::inner::by_table;
 use counts::{sums, units};
 use refusals::Refusal;
 use tables::LeapTable;
-use tables::inner::is_regular;
+use tables::inner::slots::Slots;
 
 // The GPS count a second after another, if the table is regular and the two share a UTC count.
 pub fn later_of(earlier: u64, table: LeapTable) -> Result<u64, Refusal>
     requires { valid_table table ≡ true }
     ensures { outcome_in result ≡ later_of (entries_of table) earlier }
 {
-    if !is_regular(&table.thresholds, &table.offsets, table.len) {
+    if !Slots::of_valid(&table).is_regular() {
         return Err(Refusal::Overflow);
     }
     let later = sums::plus(earlier, units::NANOS_PER_SECOND)?;

@@ -15,6 +15,7 @@ returns-in-Ok c =
     let fa = c.first_reading_of-a.ensures in
     let told = sym (ap outcome_in c.in-Ok.is) ∙ c.checked_look_up.ensures in
     let counts = c.gps_from_lookup.ensures
-    ∙ gps_from_store v es (outcome_in a.utc) fa told c.last_reading_of-b.ensures c.look_up-found.ensures in
+    ∙ gps_from_store v es (outcome_in a.utc) fa told c.last_reading_of-b.ensures
+    (rw c.of_valid.ensures at c.look_up-found.ensures) in
     c.new.ensures ∙ (λ i. dated (c.is_stale-stale.ensures i) (counts i))
     ∙ at-utc a.table.expiry v es (outcome_in a.utc) fa told c.last_reading_of-b.ensures
