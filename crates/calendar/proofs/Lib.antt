@@ -6,7 +6,6 @@ pub mod MonthStarts
 pub mod Eras
 pub mod Lifting
 pub mod TooEarly
-pub mod Nanoseconds
 pub mod RealDates
 pub mod DayByDay
 pub mod DaySteps

@@ -1,5 +1,4 @@
 pub mod InRange
-pub mod Days
 pub mod CivilTheorems
 pub mod Tells
 pub mod Calls

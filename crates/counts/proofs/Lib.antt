@@ -4,5 +4,3 @@ pub mod BySign
 pub mod Fitting
 pub mod Tells
 pub mod Calls
-mod BeforeEpoch
-pub mod NoneOf
