@@ -3,7 +3,7 @@
 use mathlib.Core.Path.{◌≡◌, refl, sym, ap, ◌∙◌}
 use mathlib.Core.Bool.{Bool, true, false, cond}
 use mathlib.Core.List.{List, [], ◌∷◌, ◌++◌, map}
-use mathlib.Core.Option.{Option}
+use Rattle.std.specs.Prelude.{Option}
 use Prim.Native.Nat.{ℕ, zero, suc, ◌+◌, ◌-◌, ◌≤◌, ◌<◌}
 use native.Mathlib.Nat.{sub-zero, suc-sub-suc}
 use native.Mathlib.Omega.{arith}
@@ -16,13 +16,15 @@ use Rattle.records.specs.Records.{Record, is_first, has_first, after_first, kept
 use Rattle.records.specs.Records.{no_count, records_refusal, expiry_of, table_from}
 use Rattle.records.specs.Judged.{Judged, judged_in, begun, dropped, keeping, by_count, judged, judged_all}
 use Rattle.records.specs.Judged.{verdict_of, kept_entries, Holds}
+use Rattle.records.specs.declared.inner.Gathered.{Gathered}
 use Rattle.records.specs.declared.inner.Progress.{Progress}
 use Rattle.records.proofs.AllRecords.{counted, all-judged}
 use Rattle.records.proofs.OneMore.{judged_more, above_before, kept_more}
 use Rattle.records.proofs.KeptValid.{accepted, accepted_few}
 
 -- ---- before the first record
-pub holds-begin : (p : Progress) → judged_in p ≡ begun → Holds [] (replicate 64 0) (replicate 64 (pos 0)) p
+pub holds-begin : (p : Progress) → judged_in p ≡ begun
+    → Holds [] (record { thresholds = replicate 64 0; offsets = replicate 64 (pos 0); seen = p })
 unfolding judged_all has_first
 holds-begin p b = record { seen = b; thresholds = λ a l. refl; offsets = λ a l. refl }
 
@@ -55,8 +57,8 @@ no_entry_lem : (es : List Entry) → length es ≡ 0 → es ≡ []
 no_entry_lem [] z = refl
 no_entry_lem (e ∷ es) z = absurd (omega arith)
 
-module _ (rs : List Record) (ts : List ℕ) (ns : List ℤ) (p q : Progress) (r : Record) (h : Holds rs ts ns p)
-    (is : judged_in q ≡ judged (judged_in p) r) where
+module _ (rs : List Record) (g : Gathered) (q : Progress) (r : Record) (h : Holds rs g)
+    (is : judged_in q ≡ judged (judged_in g.seen) r) where
   abbrev all : List Record
   all = rs ++ r ∷ []
 
@@ -80,15 +82,15 @@ module _ (rs : List Record) (ts : List ℕ) (ns : List ℤ) (p q : Progress) (r 
       )
 
   held_thresholds : some_above (after_first all) ≡ false → length (kept_entries all) ≤ 64
-      → ts ≡ (table_of (kept_entries rs)).thresholds
+      → g.thresholds ≡ (table_of (kept_entries rs)).thresholds
   held_thresholds a l = h.thresholds (above_before rs r a) (omega (arith, fewer-before))
 
   held_offsets : some_above (after_first all) ≡ false → length (kept_entries all) ≤ 64
-      → ns ≡ (table_of (kept_entries rs)).offsets
+      → g.offsets ≡ (table_of (kept_entries rs)).offsets
   held_offsets a l = h.offsets (above_before rs r a) (omega (arith, fewer-before))
 
   -- where no record is kept yet, nothing is to be stored
-  pub holds_next_unkept : q.count ≡ 0 → Holds all ts ns q
+  pub holds_next_unkept : q.count ≡ 0 → Holds all (record { thresholds = g.thresholds; offsets = g.offsets; seen = q })
   holds_next_unkept z =
       record {
         seen = seen_all;
@@ -102,7 +104,7 @@ module _ (rs : List Record) (ts : List ℕ) (ns : List ℤ) (p q : Progress) (r 
           ∙ sym (no_entry_lem (kept_entries all) (sym counts_all ∙ z))
 
   -- where there is no room, nothing is claimed of the arrays
-  pub holds_next_full : 64 < q.count → Holds all ts ns q
+  pub holds_next_full : 64 < q.count → Holds all (record { thresholds = g.thresholds; offsets = g.offsets; seen = q })
   holds_next_full l =
       record {
         seen = seen_all;
@@ -113,7 +115,7 @@ module _ (rs : List Record) (ts : List ℕ) (ns : List ℤ) (p q : Progress) (r 
   -- else it is stored in the slot past the entries before it
   module _ (some : 0 < q.count) (room : q.count ≤ 64) where
     last-kept : some_above (after_first all) ≡ false
-        → kept_entries all ≡ kept_entries rs ++ entry q.nanos q.offset ∷ []
+        → kept_entries all ≡ kept_entries rs ++ entry q.nanos q.last.offset ∷ []
     last-kept a =
         let n : 0 < (judged (judged_all begun rs) r).count = omega (arith, ap (λ (j : Judged). j.count) seen-now) in
         kept_more rs r a n
@@ -121,43 +123,46 @@ module _ (rs : List Record) (ts : List ℕ) (ns : List ℤ) (p q : Progress) (r 
 
     stored : {A : Type 0} (f : Entry → A) (z : A) (xs : List A) → some_above (after_first all) ≡ false
         → xs ≡ map f (kept_entries rs) ++ replicate (64 - length (kept_entries rs)) z
-        → set xs (q.count - 1) (f (entry q.nanos q.offset))
+        → set xs (q.count - 1) (f (entry q.nanos q.last.offset))
         ≡ map f (kept_entries all) ++ replicate (64 - length (kept_entries all)) z
     stored f z xs a e =
-        let one = length-append (kept_entries rs) (entry q.nanos q.offset ∷ []) in
+        let one = length-append (kept_entries rs) (entry q.nanos q.last.offset ∷ []) in
         let at : q.count - 1 ≡ length (kept_entries rs) = omega (arith, counts_all, ap length (last-kept a), one) in
         rw (e, at, last-kept a)
-        (one_stored f z (entry q.nanos q.offset) 64 (kept_entries rs) (omega arith))
+        (one_stored f z (entry q.nanos q.last.offset) 64 (kept_entries rs) (omega arith))
 
-    pub holds-next : Holds all (set ts (q.count - 1) q.nanos) (set ns (q.count - 1) q.offset) q
+    pub holds-next : Holds all (record {
+      thresholds = set g.thresholds (q.count - 1) q.nanos;
+      offsets = set g.offsets (q.count - 1) q.last.offset;
+      seen = q;
+    })
     holds-next =
         record {
           seen = seen_all;
-          thresholds = λ a l. stored threshold 0 ts a (held_thresholds a l);
-          offsets = λ a l. stored offset (pos 0) ns a (held_offsets a l);
+          thresholds = λ a l. stored threshold 0 g.thresholds a (held_thresholds a l);
+          offsets = λ a l. stored offset (pos 0) g.offsets a (held_offsets a l);
         }
 
 -- ---- the table
-module _ (missing : ℕ) (expiry : Option ℤ) (rs : List Record) (ts : List ℕ) (ns : List ℤ) (p : Progress)
-    (h : Holds rs ts ns p) where
-  verdict_is : verdict_of missing expiry (judged_in p) ≡ records_refusal missing expiry rs
+module _ (missing : ℕ) (expiry : Option ℤ) (rs : List Record) (g : Gathered) (h : Holds rs g) where
+  verdict_is : verdict_of missing expiry (judged_in g.seen) ≡ records_refusal missing expiry rs
   verdict_is = ap (verdict_of missing expiry) h.seen ∙ all-judged missing expiry rs
 
   -- on a refusal the table has no entry
-  pub holds_refused : (k : ℕ) → (k ≡ 0 → ⊥) → k ≡ verdict_of missing expiry (judged_in p)
+  pub holds_refused : (k : ℕ) → (k ≡ 0 → ⊥) → k ≡ verdict_of missing expiry (judged_in g.seen)
       → (k, table_of []) ≡ table_from missing expiry rs
   holds_refused k n e = rw (← (e ∙ verdict_is), ne_eqb k 0 n)
 
   -- else it is the arrays, with the expiry that was read
   pub holds_finish : (x : ℕ) → x ≡ cond (no_count expiry) 0 (expiry_of expiry) → 0 < missing
-      → 0 ≡ verdict_of missing expiry (judged_in p)
-      → (0, record { thresholds = ts; offsets = ns; len = p.count; expiry = x }) ≡ table_from missing expiry rs
+      → 0 ≡ verdict_of missing expiry (judged_in g.seen)
+      → (0, record { thresholds = g.thresholds; offsets = g.offsets; len = g.seen.count; expiry = x }) ≡ table_from missing expiry rs
   holds_finish x at l e =
       let z : records_refusal missing expiry rs ≡ 0 = sym (e ∙ verdict_is) in
       let a = accepted missing expiry rs z l in
       let es : kept_entries rs ≡ map entry_of (kept rs) = rw a.has_first_lem in
       let few : length (kept_entries rs) ≤ 64 = rw es (accepted_few missing expiry rs z l) in
-      let n : p.count ≡ length (kept_entries rs) = ap (λ (j : Judged). j.count) h.seen ∙ counted rs in
+      let n : g.seen.count ≡ length (kept_entries rs) = ap (λ (j : Judged). j.count) h.seen ∙ counted rs in
       let counts : x ≡ expiry_of expiry =
       at ∙ ap (λ (b : Bool). cond b 0 (expiry_of expiry)) a.expires_at_count in
       rw (z, h.thresholds a.none_above few, h.offsets a.none_above few, n, es, counts)

@@ -1,4 +1,3 @@
-pub mod Exact
 pub mod OrElse
 pub mod AllRecords
 pub mod OneMore

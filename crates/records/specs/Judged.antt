@@ -1,13 +1,12 @@
 -- What one pass over records has seen, a record at a time. Only contracts of functions in `inner` cite it: what it comes
 -- to for all records of a file is in proofs/AllRecords.antt.
-use Rattle.std.specs.Prelude.{◌≡◌, Bool, true, false, cond, ◌||◌, List, [], ◌∷◌, map, ℕ, zero, suc, ◌≤◌, eqb, ltb, length, ℤ, pos}
-use Rattle.std.proofs.Math.Option.{Option}
+use Rattle.std.specs.Prelude.{◌≡◌, Bool, true, false, cond, ◌||◌, List, [], ◌∷◌, map, ℕ, zero, suc, ◌≤◌, eqb, ltb, length, ℤ, pos, Option}
 use Rattle.tables.specs.Answers.{taken_in}
 use Rattle.tables.specs.Entries.{Entry}
 use Rattle.tables.specs.Slots.{table_of}
 use Rattle.records.specs.Records.{Record, event, is_first, or_else, follow_refusal, is_above, nanos_of}
 use Rattle.records.specs.Records.{has_first, after_first, kept, some_above, no_count, entry_of}
-use Rattle.records.specs.Seconds.{seconds_in}
+use Rattle.records.specs.declared.inner.Gathered.{Gathered}
 use Rattle.records.specs.declared.inner.Progress.{Progress}
 
 -- whether a record came; how many are kept; whether a kept threshold is above the counts; the first refusal by order; the
@@ -27,8 +26,8 @@ judged_in p = record {
   count = p.count;
   above = p.above;
   why = taken_in p.why;
-  second = seconds_in p.second;
-  offset = p.offset;
+  second = p.last.threshold;
+  offset = p.last.offset;
   nanos = p.nanos;
 }
 
@@ -81,10 +80,10 @@ verdict_of missing expiry j =
 abbrev pub kept_entries : List Record → List Entry
 kept_entries rs = cond (has_first rs) (map entry_of (kept rs)) []
 
--- what has been seen is told by `p`, and the arrays hold the kept entries, where these are counts and there is room
-pub record Holds (rs : List Record) (ts : List ℕ) (ns : List ℤ) (p : Progress) : Type 0 where
-  pub seen : judged_in p ≡ judged_all begun rs
+-- what has been seen is told, and the arrays hold the kept entries, where these are counts and there is room
+pub record Holds (rs : List Record) (g : Gathered) : Type 0 where
+  pub seen : judged_in g.seen ≡ judged_all begun rs
   pub thresholds : some_above (after_first rs) ≡ false → length (kept_entries rs) ≤ 64
-      → ts ≡ (table_of (kept_entries rs)).thresholds
+      → g.thresholds ≡ (table_of (kept_entries rs)).thresholds
   pub offsets : some_above (after_first rs) ≡ false → length (kept_entries rs) ≤ 64
-      → ns ≡ (table_of (kept_entries rs)).offsets
+      → g.offsets ≡ (table_of (kept_entries rs)).offsets

@@ -1,18 +1,17 @@
 -- The leap records of a file, in the file's order, and the table that they make. Which records a file holds is for its
 -- reader to say.
-use Rattle.std.specs.Prelude.{Bool, true, false, cond, ◌||◌, List, [], ◌∷◌, map, ℕ, ◌*◌, ◌^◌, leb, ltb, eqb, length, ℤ, pos, negsuc, ◌-ℤ◌}
-use Rattle.std.proofs.Math.Option.{Option, none, some}
+use Rattle.std.specs.Prelude.{Bool, true, false, cond, ◌||◌, List, [], ◌∷◌, map, ℕ, ◌*◌, ◌^◌, leb, ltb, eqb, length, ℤ, pos, negsuc, ◌-ℤ◌, Option, None, Some}
 use Rattle.std.specs.Int.Signed.{le_z}
 use Rattle.counts.specs.Units.{second}
 use Rattle.tables.specs.Entries.{Entry, entry, equal, offset_refusal}
 use Rattle.tables.specs.Slots.{table_of, no_expiry}
 use Rattle.tables.specs.Expiry.{with_expiry}
 use Rattle.tables.specs.declared.LeapTable.{LeapTable}
+use Rattle.records.specs.declared.inner.LeapRecord.{LeapRecord}
 
 -- from the TAI second `threshold` on, TAI is `offset` seconds ahead of UTC; in a file both may be any integers
-pub record Record : Type 0 where
-  pub threshold : ℤ
-  pub offset : ℤ
+abbrev pub Record : Type 0
+Record = LeapRecord
 
 abbrev pub record_of : ℤ → ℤ → Record
 record_of t n = record { threshold = t; offset = n }
@@ -75,9 +74,9 @@ some_above (r ∷ rs) = is_above r.threshold || some_above rs
 
 -- the TAI second of an expiry is below 0, or its nanoseconds are above the counts
 abbrev pub no_count : Option ℤ → Bool
-no_count none = false
-no_count (some (pos s)) = is_above (pos s)
-no_count (some (negsuc s)) = true
+no_count None = false
+no_count (Some (pos s)) = is_above (pos s)
+no_count (Some (negsuc s)) = true
 
 -- 6 for no record, `missing` where none has offset 19; then 1 for a kept threshold or an expiry that is no count, 5 for
 -- too many kept ones, and of all 3, 7, 4
@@ -100,8 +99,8 @@ entry_of r = entry (nanos_of r.threshold) r.offset
 
 -- the expiry of the table: that of its TAI second, or none
 abbrev pub expiry_of : Option ℤ → ℕ
-expiry_of none = no_expiry
-expiry_of (some s) = nanos_of s
+expiry_of None = no_expiry
+expiry_of (Some s) = nanos_of s
 
 -- the refusal's number, or 0, and the table: on a refusal the one with no entry and no expiry
 abbrev pub table_from : ℕ → Option ℤ → List Record → ℕ × LeapTable
