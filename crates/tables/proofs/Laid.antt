@@ -91,13 +91,13 @@ module _ {xs : List ℕ} {zs : List ℤ} {es : List Entry} (k : Laid xs zs es) w
   pub days_told : (r : Bool) → IsAllAdjacentAnswer (λ x y b. b ≡ leb (x + day) y) xs r → r ≡ neighbours a_day_on es
   days_told true each =
       sym (every_place a_day_on es d (λ i l.
-          let n_is = k.size in
-          rw (at i (omega arith), at (suc i) (omega arith)) (sym (rw add-one at (each i 0 (omega arith))))))
+      let n_is = k.size in
+      rw (at i (omega arith), at (suc i) (omega arith)) (sym (rw add-one at (each i 0 (omega arith))))))
   days_told false (i, l, late) =
       same_test false (neighbours a_day_on es) (λ f. absurd (false≢true f)) (λ v.
-          let n_is = k.size in
-          let day_on = at_each a_day_on es d v i (omega arith) in
-          rw add-one at (late 0) ∙ (rw (at i (omega arith), at (suc i) (omega arith)) at day_on))
+      let n_is = k.size in
+      let day_on = at_each a_day_on es d v i (omega arith) in
+      rw add-one at (late 0) ∙ (rw (at i (omega arith), at (suc i) (omega arith)) at day_on))
 
   pub no_fall : IsNonDecreasingBy (λ (x : ℕ). x) xs
   no_fall = IsNonDecreasingBy-from_default (λ (x : ℕ). x) xs 0 go

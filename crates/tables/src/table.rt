@@ -8,8 +8,8 @@ ghost use Rattle.tables.specs.Slots.{paired, entries_of, of_valid, table_of, ext
 ghost use Rattle.tables.specs.Expiry.{by_table, expiry_in, expiring};
 ghost use Rattle.tables.specs.Answers.{taken_in, table_answer_in, entry_in, update_in, dated_in};
 
-use crate::{Dated, LeapEntry, LeapTable, NO_EXPIRY, RUNTIME_CAPACITY, TableAnswer, inner};
 use crate::inner::slots::Slots;
+use crate::{Dated, LeapEntry, LeapTable, NO_EXPIRY, RUNTIME_CAPACITY, TableAnswer, inner};
 use refusals::Refusal;
 use scales::tai::Tai;
 

@@ -9,5 +9,5 @@ pub returns-then-eq : goal.returns-then-eq
 returns-then-eq c =
     let k = laid c.self.view_is c.self.invariant in
     let days = days_told k c.is_sorted_by.result
-      (c.is_sorted_by.ensures.cases (λ x y. leb (x + day) y) (answers_always _ _ _ (λ f a r f' q. search (rules, of_calls)))) in
+    (c.is_sorted_by.ensures.cases (λ x y. leb (x + day) y) (answers_always _ _ _ (λ f a r f' q. search (rules, of_calls)))) in
     regular_told k c.in-Some.first c.in-Some.ensures (search rules) (search rules) days
