@@ -28,6 +28,10 @@ field_more k stride (suc n) bs =
 abbrev pub itself : ℕ → ℕ
 itself n = n
 
+pub map_itself : (ns : List ℕ) → map itself ns ≡ ns
+map_itself [] = refl
+map_itself (n ∷ ns) = ap (λ (l : List ℕ). n ∷ l) (map_itself ns)
+
 -- the first i of 64 slots hold the first i numbers, and the next number is put into the slot after them
 pub record Kept {A : Type 0} (f : ℕ → A) (k stride start : ℕ) (b : List ℕ) (kept : List A) (i : ℕ) : Type 0 where
   pub size : length kept ≡ 64

@@ -38,6 +38,9 @@ module _ (b : List ℕ) where
         table = checked (table_in b) s.thresholds s.offsets h.1;
       }
 
+  pub valid_image : length b ≡ 784 → valid_table (table_in b) ≡ true → Held
+  valid_image s v = held refl (rw (eq-eqb (length b) 784 s) v)
+
   -- the size and the table are one test
   module _ {A : Type 0} (o : Outcome A) where
     pub one_test : by_image b (λ es. o) ≡ cond holds o (refused 8)

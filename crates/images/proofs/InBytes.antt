@@ -1,18 +1,14 @@
--- A list in bytes, an entry at a time: what the pass has before it, and that each offset fits 32 bits.
+-- A list in bytes, an entry at a time: what the pass has before it, and the entry at a place.
 use mathlib.Core.Path.{◌≡◌, refl}
 use mathlib.Core.List.{List}
 use Prim.Native.Nat.{ℕ, zero, suc, ◌+◌, ◌-◌, ◌*◌, ◌<◌}
 use native.Mathlib.Omega.{arith}
-use lib.ListN.{length, get_or, drop}
+use lib.ListN.{get_or, drop}
 use lib.Seq.{drop-drop}
-use mir.Syntax.{w32}
-use mir.Val.{SFits}
-use mir.Facts.{sfits_to_z}
-use Rattle.words.proofs.Inverses.{Below, below_drop, part_below}
-use Rattle.tables.specs.Entries.{offset}
 use Rattle.lent.specs.Pass.{Seen, after, passed}
 use Rattle.lent.proofs.Passing.{no_entry}
 use Rattle.images.specs.Listed.{first_in, entries_from}
+use Rattle.images.proofs.Fields.{strides}
 
 -- one entry on
 pub turn : (s : Seen) (n i : ℕ) (b : List ℕ) → i < n
@@ -29,9 +25,8 @@ pub ended : (s : Seen) (b : List ℕ) → passed s (entries_from 0 b) ≡ s
 unfolding passed entries_from
 ended s b = refl
 
-pub offsets_fit : (n : ℕ) (b : List ℕ) → Below 256 b → (k : ℕ) → k < length (entries_from n b)
-    → SFits w32 (offset (get_or (entries_from n b) k no_entry))
+pub listed : (n i : ℕ) (b : List ℕ) → i < n → get_or (entries_from n b) i no_entry ≡ first_in (drop (12 * i) b)
 unfolding entries_from
-offsets_fit zero b h k l = absurd (omega arith)
-offsets_fit (suc n) b h zero l = sfits_to_z (record { fits = part_below 4 (drop 8 b) (below_drop 8 b h) })
-offsets_fit (suc n) b h (suc k) l = offsets_fit n (drop 12 b) (below_drop 12 b h) k (omega arith)
+listed zero i b l = absurd (omega arith)
+listed (suc n) zero b l = refl
+listed (suc n) (suc i) b l = rw (← strides 12 i b) (listed n i (drop 12 b) (omega arith))

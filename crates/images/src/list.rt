@@ -7,8 +7,7 @@ ghost use Rattle.tables.specs.Entries.{offset_at, current_offset, last_update};
 ghost use Rattle.tables.specs.Answers.{taken_in, update_in, dated_in};
 ghost use Rattle.images.specs.Listed.{list_checked, of_listed};
 
-use crate::inner;
-use crate::inner::entries::pass_over;
+use crate::inner::entries::ListedEntries;
 use refusals::Refusal;
 use scales::tai::Tai;
 use tables::Dated;
@@ -20,10 +19,7 @@ const NO_READING: u64 = 0;
 pub fn try_from_slice(entries: &[u8]) -> Result<(), Refusal>
     ensures { taken_in result ≡ list_checked entries.now }
 {
-    if entries.len() % inner::ENTRY_BYTES != 0 {
-        return Err(Refusal::BadTable);
-    }
-    pass_over(entries, NO_READING).check()
+    ListedEntries::of(entries)?.pass(NO_READING).check()
 }
 
 // The offset in force at a TAI reading. A list has no expiry, so it is never stale.
@@ -31,50 +27,35 @@ pub fn tai_minus_utc_at(entries: &[u8], tai: Tai) -> Dated<i32>
     ensures { dated_in result ≡
         (of_listed entries.now (λ es. answered (offset_at es tai.0)), false) }
 {
-    if entries.len() % inner::ENTRY_BYTES != 0 {
-        return Dated {
-            answer: Err(Refusal::BadTable),
-            stale: false,
-        };
+    match ListedEntries::of(entries) {
+        Ok(list) => list.pass(tai.0).in_force(),
+        Err(why) => Dated::new(Err(why), false),
     }
-    pass_over(entries, tai.0).in_force()
 }
 
 // The number of entries.
 pub fn len(entries: &[u8]) -> Result<usize, Refusal>
     ensures { outcome_in result ≡ of_listed entries.now (λ es. answered (length es)) }
 {
-    if entries.len() % inner::ENTRY_BYTES != 0 {
-        return Err(Refusal::BadTable);
-    }
-    pass_over(entries, NO_READING).length()
+    ListedEntries::of(entries)?.pass(NO_READING).length()
 }
 
 pub fn is_empty(entries: &[u8]) -> Result<bool, Refusal>
     ensures { outcome_in result ≡ of_listed entries.now (λ es. answered (eqb (length es) 0)) }
 {
-    if entries.len() % inner::ENTRY_BYTES != 0 {
-        return Err(Refusal::BadTable);
-    }
-    pass_over(entries, NO_READING).emptiness()
+    ListedEntries::of(entries)?.pass(NO_READING).emptiness()
 }
 
 // The threshold of the last event: nothing where there is at most the first entry.
 pub fn last_update(entries: &[u8]) -> Result<Option<Tai>, Refusal>
     ensures { update_in result ≡ of_listed entries.now (λ es. answered (last_update es)) }
 {
-    if entries.len() % inner::ENTRY_BYTES != 0 {
-        return Err(Refusal::BadTable);
-    }
-    pass_over(entries, NO_READING).update()
+    ListedEntries::of(entries)?.pass(NO_READING).update()
 }
 
 // The offset of the last entry, or 19.
 pub fn current_tai_minus_utc(entries: &[u8]) -> Result<i32, Refusal>
     ensures { outcome_in result ≡ of_listed entries.now (λ es. answered (current_offset es)) }
 {
-    if entries.len() % inner::ENTRY_BYTES != 0 {
-        return Err(Refusal::BadTable);
-    }
-    pass_over(entries, NO_READING).current()
+    ListedEntries::of(entries)?.pass(NO_READING).current()
 }

@@ -15,8 +15,8 @@ ghost use Rattle.images.specs.Image.{by_image, dated_by_image, image_read, image
 ghost use Rattle.images.specs.Image.{table_in, image_extended, image_expiring};
 
 use crate::inner;
-use crate::inner::lookup::is_valid;
-use crate::inner::{lookup, slots};
+use crate::inner::entries::ListedEntries;
+use crate::inner::image::{Image, ValidImage};
 use conversions::inner::{
     first_reading_of, gps_from_lookup, last_reading_of, reading_of, steps, tai_of, utc_from_lookup,
 };
@@ -30,12 +30,12 @@ use tables::{Dated, LeapEntry, LeapTable, NO_EXPIRY, RUNTIME_CAPACITY, TableAnsw
 pub fn read(image: &[u8]) -> TableAnswer
     ensures { table_answer_in result ≡ image_read image.now }
 {
-    if image.len() != inner::IMAGE_BYTES {
-        return inner::no_table(Refusal::BadTable);
-    }
-    TableAnswer {
-        answer: Ok(()),
-        table: inner::table_in(image),
+    match Image::of(image) {
+        Ok(image) => TableAnswer {
+            answer: Ok(()),
+            table: image.table(),
+        },
+        Err(why) => inner::no_table(why),
     }
 }
 
@@ -43,9 +43,7 @@ pub fn read(image: &[u8]) -> TableAnswer
 pub fn write(table: LeapTable, image: &mut [u8]) -> Result<(), Refusal>
     ensures { (taken_in result, image.new) ≡ image_written table image.old }
 {
-    if image.len() != inner::IMAGE_BYTES {
-        return Err(Refusal::BadTable);
-    }
+    let _ = Image::of(image)?;
     inner::put_table(image, table);
     Ok(())
 }
@@ -54,23 +52,21 @@ pub fn write(table: LeapTable, image: &mut [u8]) -> Result<(), Refusal>
 pub fn build(entries: &[u8]) -> TableAnswer
     ensures { table_answer_in result ≡ built_from entries.now }
 {
-    if entries.len() % inner::ENTRY_BYTES != 0 {
-        return inner::no_table(Refusal::BadTable);
-    }
-    let n = entries.len() / inner::ENTRY_BYTES;
+    let list = match ListedEntries::of(entries) {
+        Ok(list) => list,
+        Err(why) => return inner::no_table(why),
+    };
+    let n = list.len();
     if RUNTIME_CAPACITY < n {
         return inner::no_table(Refusal::BufferFull);
     }
-    let slots = inner::slots_at(
-        entries,
-        0,
-        inner::ENTRY_BYTES,
-        inner::THRESHOLD_BYTES,
-        inner::ENTRY_BYTES,
-        n,
-    );
-    let thresholds = slots.thresholds;
-    let offsets = slots.offsets;
+    let mut thresholds = [0u64; RUNTIME_CAPACITY];
+    let mut offsets = [0i32; RUNTIME_CAPACITY];
+    for i in 0..n {
+        let entry = list.entry(i);
+        thresholds[i] = entry.tai_nanos;
+        offsets[i] = entry.tai_minus_utc;
+    }
     LeapTable::from_lists(&thresholds[..n], &offsets[..n])
 }
 
@@ -79,47 +75,33 @@ pub fn extend(image: &mut [u8], tai_nanos: u64, tai_minus_utc: i32) -> Result<()
     ensures { (taken_in result, image.new) ≡
         image_extended image.old (entry tai_nanos tai_minus_utc) }
 {
-    if image.len() != inner::IMAGE_BYTES {
-        return Err(Refusal::BadTable);
-    }
-    let before = inner::table_in(image);
-    let after = before.try_extend(LeapEntry {
-        tai_nanos,
-        tai_minus_utc,
-    });
-    inner::store(image, after)
+    let before = Image::of(image)?.table();
+    inner::store(
+        image,
+        before.try_extend(LeapEntry::new(tai_nanos, tai_minus_utc)),
+    )
 }
 
 // The number of entries.
 pub fn len(image: &[u8]) -> Result<usize, Refusal>
     ensures { outcome_in result ≡ by_image image.now (λ es. answered (length es)) }
 {
-    if is_valid(image) {
-        Ok(slots::len(image))
-    } else {
-        Err(Refusal::BadTable)
-    }
+    Ok(ValidImage::of(image)?.image.len())
 }
 
 pub fn is_empty(image: &[u8]) -> Result<bool, Refusal>
     ensures { outcome_in result ≡ by_image image.now (λ es. answered (eqb (length es) 0)) }
 {
-    if is_valid(image) {
-        Ok(slots::len(image) == 0)
-    } else {
-        Err(Refusal::BadTable)
-    }
+    Ok(len(image)? == 0)
 }
 
 // The entry at a place, counted from 0.
 pub fn entry_at(image: &[u8], place: usize) -> Result<Option<LeapEntry>, Refusal>
     ensures { entry_in result ≡ by_image image.now (λ es. answered (get_elem? es place)) }
 {
-    if !is_valid(image) {
-        return Err(Refusal::BadTable);
-    }
-    if place < slots::len(image) {
-        Ok(Some(slots::entry(image, place)))
+    let table = ValidImage::of(image)?.image;
+    if place < table.len() {
+        Ok(Some(table.entry(place)))
     } else {
         Ok(None)
     }
@@ -129,12 +111,10 @@ pub fn entry_at(image: &[u8], place: usize) -> Result<Option<LeapEntry>, Refusal
 pub fn last_update(image: &[u8]) -> Result<Option<Tai>, Refusal>
     ensures { update_in result ≡ by_image image.now (λ es. answered (last_update es)) }
 {
-    if !is_valid(image) {
-        return Err(Refusal::BadTable);
-    }
-    let n = slots::len(image);
+    let table = ValidImage::of(image)?.image;
+    let n = table.len();
     if 1 < n {
-        Ok(Some(Tai(slots::threshold(image, n - 1))))
+        Ok(Some(Tai(table.threshold(n - 1))))
     } else {
         Ok(None)
     }
@@ -144,25 +124,24 @@ pub fn last_update(image: &[u8]) -> Result<Option<Tai>, Refusal>
 pub fn current_tai_minus_utc(image: &[u8]) -> Result<i32, Refusal>
     ensures { outcome_in result ≡ by_image image.now (λ es. answered (current_offset es)) }
 {
-    if !is_valid(image) {
-        return Err(Refusal::BadTable);
-    }
-    let n = slots::len(image);
+    let table = ValidImage::of(image)?.image;
+    let n = table.len();
     if n == 0 {
         Ok(OFFSET_OF_NO_ENTRY)
     } else {
-        Ok(slots::offset(image, n - 1))
+        Ok(table.offset(n - 1))
     }
 }
 
-// The offset in force at a TAI reading, and whether the table is stale there. Only an image has an expiry to read: bytes
-// of another size are refused by the lookup.
+// The offset in force at a TAI reading, and whether the table is stale there.
 pub fn tai_minus_utc_at(image: &[u8], tai: Tai) -> Dated<i32>
     ensures { dated_in result ≡
         dated_by_image image.now (λ es. tai.0) (λ es. answered (offset_at es tai.0)) }
 {
-    let found = lookup::checked_look_up(image, tai.0);
-    dated_offset_in(found, slots::expiry(image), tai.0)
+    match Image::of(image) {
+        Ok(image) => dated_offset_in(image.checked_look_up(tai.0), image.expiry(), tai.0),
+        Err(why) => Dated::new(Err(why), false),
+    }
 }
 
 // The TAI reading from which on the table is stale, or nothing.
@@ -170,10 +149,7 @@ pub fn expiry(image: &[u8]) -> Result<Option<Tai>, Refusal>
     ensures { update_in result ≡
         by_image image.now (λ es. answered (expiry_in (table_in image.now))) }
 {
-    if !is_valid(image) {
-        return Err(Refusal::BadTable);
-    }
-    let expiry = slots::expiry(image);
+    let expiry = ValidImage::of(image)?.image.expiry();
     if expiry == NO_EXPIRY {
         Ok(None)
     } else {
@@ -186,12 +162,8 @@ pub fn expiry(image: &[u8]) -> Result<Option<Tai>, Refusal>
 pub fn set_expiry(image: &mut [u8], expiry: Tai) -> Result<(), Refusal>
     ensures { (taken_in result, image.new) ≡ image_expiring image.old expiry.0 }
 {
-    if image.len() != inner::IMAGE_BYTES {
-        return Err(Refusal::BadTable);
-    }
-    let before = inner::table_in(image);
-    let after = before.with_expiry(expiry);
-    inner::store(image, after)
+    let before = Image::of(image)?.table();
+    inner::store(image, before.with_expiry(expiry))
 }
 
 // Refuses 8, then what the step before refused, then 1, 9, 1: the table, the TAI reading, the offset, the result. The
@@ -201,10 +173,13 @@ pub fn utc_from_gps(gps: Result<u64, Refusal>, image: &[u8]) -> Dated<u64>
         dated_by_image image.now (λ es. value_in 0 (outcome_in gps) + tai_minus_gps)
         (λ es. then (outcome_in gps) (gps_to_utc es)) }
 {
+    let Ok(image) = Image::of(image) else {
+        return Dated::new(Err(Refusal::BadTable), false);
+    };
     let tai = tai_of(gps);
     let reading = reading_of(tai);
-    let stale = is_stale(slots::expiry(image), reading);
-    let found = lookup::checked_look_up(image, reading);
+    let stale = is_stale(image.expiry(), reading);
+    let found = image.checked_look_up(reading);
     Dated::new(utc_from_lookup(found, tai), stale)
 }
 
@@ -215,12 +190,16 @@ pub fn gps_from_utc(utc: Result<u64, Refusal>, image: &[u8]) -> Dated<u64>
         dated_by_image image.now (λ es. last_reading es (value_in 0 (outcome_in utc)))
         (λ es. then (outcome_in utc) (utc_to_gps es)) }
 {
+    let Ok(image) = Image::of(image) else {
+        return Dated::new(Err(Refusal::BadTable), false);
+    };
     let a = first_reading_of(utc);
-    match lookup::checked_look_up(image, a) {
+    match image.checked_look_up(a) {
         Ok(first) => {
+            let table = ValidImage { image };
             let b = last_reading_of(utc, first, a);
-            let found = lookup::look_up(image, b);
-            let stale = is_stale(slots::expiry(image), b);
+            let found = table.look_up(b);
+            let stale = is_stale(image.expiry(), b);
             Dated::new(gps_from_lookup(found, utc), stale)
         }
         Err(why) => Dated::new(Err(why), false),
@@ -242,16 +221,14 @@ pub fn shifted_from_utc(utc: Result<u64, Refusal>, image: &[u8], behind: u64) ->
         dated_by_image image.now (λ es. shifted_reading behind es (value_in 0 (outcome_in utc)))
         (λ es. then (outcome_in utc) (utc_to_shifted behind es)) }
 {
-    let found = gps_from_utc(utc, image);
-    let first = found.answer;
-    match first {
-        Ok(gps) => {
-            if gps < behind {
-                inner::shifted_by_later(image, gps, behind)
-            } else {
-                Dated::new(sums::minus(gps, behind), found.stale)
-            }
-        }
+    let Ok(image) = Image::of(image) else {
+        return Dated::new(Err(Refusal::BadTable), false);
+    };
+    let bytes = image.bytes;
+    let found = gps_from_utc(utc, bytes);
+    match found.answer {
+        Ok(gps) if gps < behind => inner::shifted_by_later(ValidImage { image }, gps, behind),
+        Ok(gps) => Dated::new(sums::minus(gps, behind), found.stale),
         Err(why) => Dated::new(Err(why), false),
     }
 }

@@ -4,4 +4,6 @@ use Rattle.lent.proofs.AnswersByPass.{current_read}
 use Rattle.images.proofs.list.current_tai_minus_utc.Goals as goal
 
 pub returns : goal.returns
-returns c = rw c.if-entries-ne0.false (c.current.ensures ∙ current_read 0 _ c.pass_over.result c.pass_over.ensures)
+returns c =
+    let list = c.in_ok-of in
+    rw (← list.ensures, list.field-0.whole) (c.current.ensures ∙ current_read 0 _ c.pass.result c.pass.ensures)

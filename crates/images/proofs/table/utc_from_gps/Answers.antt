@@ -10,13 +10,13 @@ use Rattle.conversions.proofs.ByLookup.{utc_from_store}
 use Rattle.conversions.proofs.Dated.{at_gps}
 use Rattle.images.specs.Image.{table_in}
 use Rattle.images.proofs.Held.{holds, one_test}
-use Rattle.images.proofs.Dated.{in_one, read_as_none}
+use Rattle.images.proofs.Dated.{in_one}
 use Rattle.images.proofs.table.utc_from_gps.Goals as goal
 
 pub returns : goal.returns
 returns c =
     let a = c.args in
-    let b = a.image.now in
+    let b = c.in-Ok.image.bytes.now in
     let es = entries_of (table_in b) in
     let gps = outcome_in a.gps in
     let first = value_in 0 (then gps (up tai_minus_gps)) in
@@ -26,8 +26,8 @@ returns c =
     ∙ sym (one_test b _) in
     let reads = c.is_stale-stale.ensures
     ∙ (λ i. stale_at (c.expiry.ensures i) ((c.reading_of-reading.ensures ∙ ap (value_in 0) c.tai_of-tai.ensures) i)) in
-    c.new.ensures ∙ (λ i. dated (reads i) (counts i))
-    ∙ read_as_none b (λ es. first) (λ es. then gps (gps_to_utc es))
+    rw (← c.in-Ok.ensures)
+    (c.new-2.ensures ∙ (λ i. dated (reads i) (counts i))
     ∙ in_one b (λ es. first) (λ es. then gps (gps_to_utc es))
     ∙ at_gps (table_in b).expiry (holds b) es gps
-    ∙ sym (in_one b (λ es. value_in 0 gps + tai_minus_gps) (λ es. then gps (gps_to_utc es)))
+    ∙ sym (in_one b (λ es. value_in 0 gps + tai_minus_gps) (λ es. then gps (gps_to_utc es))))

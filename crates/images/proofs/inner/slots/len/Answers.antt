@@ -1,7 +1,0 @@
--- The length stands first.
-use Rattle.std.proofs.Common.{◌∙◌}
-use Rattle.images.proofs.InSlots.{length_is}
-use Rattle.images.proofs.inner.slots.len.Goals as goal
-
-pub returns : goal.returns
-returns c = c.number_in_8.ensures ∙ length_is c.args.image.now

@@ -1,7 +1,0 @@
--- Thresholds follow the length.
-use Rattle.std.proofs.Common.{◌∙◌}
-use Rattle.images.proofs.InSlots.{threshold_is}
-use Rattle.images.proofs.inner.slots.threshold.Goals as goal
-
-pub returns : goal.returns
-returns c = c.number_in_8.ensures ∙ threshold_is c.args.image.now c.args.i c.requires.i_bound
