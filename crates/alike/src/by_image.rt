@@ -5,7 +5,7 @@ ghost use Rattle.images.specs.Image.{by_image};
 ghost use Rattle.alike.specs.Alike.{alike};
 
 use crate::{Alike, by_value};
-use images::inner::{IMAGE_BYTES, table_in};
+use images::inner::image::Image;
 use refusals::Refusal;
 
 // Refuses as `by_value::alike`.
@@ -13,11 +13,5 @@ pub fn alike<'a>(old: &'a [u8], new: &'a [u8]) -> Result<Alike, Refusal>
     ensures { outcome_in result ≡
         by_image old.now (λ es. by_image new.now (λ fs. alike es fs)) }
 {
-    if old.len() != IMAGE_BYTES {
-        return Err(Refusal::BadTable);
-    }
-    if new.len() != IMAGE_BYTES {
-        return Err(Refusal::BadTable);
-    }
-    by_value::alike(table_in(old), table_in(new))
+    by_value::alike(Image::of(old)?.table(), Image::of(new)?.table())
 }

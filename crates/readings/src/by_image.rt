@@ -11,8 +11,7 @@ ghost use Rattle.readings.specs.Readings.{gps_to_civil, civil_to_gps};
 use crate::inner::{back, if_real, read};
 use civil::CivilDateTime;
 use conversions::inner::{first_reading_of, gps_from_lookup, last_reading_of, reading_of, tai_of};
-use images::inner::lookup::{checked_look_up, is_on_days, look_up};
-use images::inner::slots::expiry;
+use images::inner::image::{Image, ValidImage};
 use refusals::Refusal;
 use scales::gps::Gps;
 use tables::Dated;
@@ -23,14 +22,18 @@ pub fn gps_to_civil(gps: Gps, image: &[u8]) -> Dated<CivilDateTime>
     ensures { dated_in result ≡
         dated_by_image image.now (λ es. gps.0 + tai_minus_gps) (λ es. gps_to_civil es gps.0) }
 {
+    let Ok(image) = Image::of(image) else {
+        return Dated::new(Err(Refusal::BadTable), false);
+    };
     let tai = tai_of(Ok(gps.0));
     let reading = reading_of(tai);
-    match checked_look_up(image, reading) {
+    match image.checked_look_up(reading) {
         Ok(found) => {
-            if !is_on_days(image) {
+            let table = ValidImage { image };
+            if !table.is_on_days() {
                 return Dated::new(Err(Refusal::NotOnDays), false);
             }
-            let stale = is_stale(expiry(image), reading);
+            let stale = is_stale(image.expiry(), reading);
             Dated::new(read(found, tai), stale)
         }
         Err(why) => Dated::new(Err(why), false),
@@ -45,18 +48,22 @@ pub fn civil_to_gps(fields: CivilDateTime, image: &[u8]) -> Dated<u64>
         dated_by_image image.now (λ es. value_in 0 (civil_to_gps es fields) + tai_minus_gps)
         (λ es. civil_to_gps es fields) }
 {
+    let Ok(image) = Image::of(image) else {
+        return Dated::new(Err(Refusal::BadTable), false);
+    };
     let utc = fields.to_utc_nanos();
     let a = first_reading_of(utc);
-    match checked_look_up(image, a) {
+    match image.checked_look_up(a) {
         Ok(told) => {
-            if !is_on_days(image) {
+            let table = ValidImage { image };
+            if !table.is_on_days() {
                 return Dated::new(Err(Refusal::NotOnDays), false);
             }
             let b = last_reading_of(utc, told, a);
-            let first = gps_from_lookup(look_up(image, b), utc);
-            let found = look_up(image, reading_of(tai_of(first)));
+            let first = gps_from_lookup(table.look_up(b), utc);
+            let found = table.look_up(reading_of(tai_of(first)));
             let gps = if_real(fields, back(fields, utc, first, found));
-            let stale = is_stale(expiry(image), reading_of(tai_of(gps)));
+            let stale = is_stale(image.expiry(), reading_of(tai_of(gps)));
             Dated::new(gps, stale)
         }
         Err(why) => Dated::new(Err(why), false),

@@ -21,10 +21,7 @@ pub const INSERTED: u8 = 60;
 fn near_before(next: Option<u64>, tai: u64) -> bool
     ensures { result ≡ near_before next tai }
 {
-    match next {
-        Some(threshold) => threshold <= tai || threshold - tai <= NANOS_PER_SECOND,
-        None => false,
-    }
+    next.is_some_and(|threshold| threshold.saturating_sub(tai) <= NANOS_PER_SECOND)
 }
 
 // The fields of the second before a UTC count, with 60 in place of 59.
