@@ -5,7 +5,7 @@ ghost use Rattle.builtin.specs.Events.{leap_seconds_at};
 use calendar::epochs;
 
 // The epochs that the table reaches.
-#[derive(Clone, Copy)]
+#[derive(Clone, Copy, Debug, PartialEq, Eq, Hash)]
 pub enum ScaleEpoch {
     Gps,
     Glonass,

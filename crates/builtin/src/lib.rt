@@ -26,7 +26,8 @@ use scales::utc::Utc;
 use tables::LeapTable;
 use tables::inner::table_of;
 
-// TAI readings in nanoseconds.
+// TAI readings in nanoseconds. They are beside the offsets, as in a table: an array of entries would be taken apart to
+// build one.
 pub const BUILTIN_THRESHOLDS: [u64; 19] = [
     0,
     lookup::JULY_1981,

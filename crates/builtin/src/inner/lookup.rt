@@ -58,15 +58,22 @@ pub const BUCKET: u64 = 36_028_797_018_963_968;
 
 const LAST_BUCKET: u64 = 31;
 
-// The bucket of a count, where bucket 0 starts at `start`.
+// The bucket of a count, where bucket 0 starts at `start`. With `min` for the last bucket the compiler makes a jump: GPS to
+// UTC takes 6.3 ns in place of 3.6 on shuffled counts.
 pub fn bucket_of(count: u64, start: u64) -> u64
     ensures { InBucket start count result }
 {
-    (count.saturating_sub(start) / BUCKET).min(LAST_BUCKET)
+    let bucket = count.saturating_sub(start) / BUCKET;
+    if bucket < LAST_BUCKET {
+        bucket
+    } else {
+        LAST_BUCKET
+    }
 }
 
 // How many events are before a bucket of readings. There is an arm for each of the 32 buckets, so that the compiler makes a
-// table of them, with no jump and no test of the number.
+// table of them, with no jump and no test of the number, and knows how large an answer is: by two arrays in place of this and
+// of `event_threshold` GPS to UTC takes 5.4 ns in place of 3.6.
 pub fn events_before(bucket: u64) -> u64
     requires { bucket ≤ 31 }
     ensures { result ≡ events_before bucket }

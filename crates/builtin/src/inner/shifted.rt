@@ -26,36 +26,25 @@ fn shifted_by_later(gps: u64, behind: u64) -> Result<u64, Refusal>
     steps::down(later_of(gps, from_builtin()), behind)
 }
 
-// The same answer, copied part by part. The compiler copies an answer in memory as a whole, bytes between its parts included,
-// and for an answer that has just been put there in parts the processor then waits.
-fn by_parts(answer: Result<u64, Refusal>) -> Result<u64, Refusal>
-    ensures { result ≡ answer }
-{
-    match answer {
-        Ok(count) => Ok(count),
-        Err(why) => Err(why),
-    }
-}
-
 pub fn shifted_from_utc(utc: Result<u64, Refusal>, behind: u64) -> Result<u64, Refusal>
     ensures { outcome_in result ≡ then (outcome_in utc) (utc_to_shifted behind builtin) }
 {
     let gps = gps_from_utc(utc)?;
     if gps < behind {
-        by_parts(shifted_by_later(gps, behind))
+        shifted_by_later(gps, behind)
     } else {
         sums::minus(gps, behind)
     }
 }
 
 // The same from GLONASS, by way of UTC. It is written out: what is rare, and taken by two functions, the compiler leaves
-// out of line.
+// out of line. By a call of `shifted_from_utc` GLONASS to BeiDou takes 8.1 ns in place of 7.1.
 pub fn shifted_from_glonass(glonass: Result<u64, Refusal>, behind: u64) -> Result<u64, Refusal>
     ensures { outcome_in result ≡ then (outcome_in glonass) (glonass_to_shifted behind builtin) }
 {
     let gps = gps_from_utc(steps::utc_from_glonass(glonass))?;
     if gps < behind {
-        by_parts(shifted_by_later(gps, behind))
+        shifted_by_later(gps, behind)
     } else {
         sums::minus(gps, behind)
     }
