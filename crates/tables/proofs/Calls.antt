@@ -1,8 +1,11 @@
 -- Each call of this crate leaves one answer for each input, and one table where it gives one.
 use mathlib.Core.Path.{sym, ◌∙◌}
+use denote.RattleType
+use denote.Param.Laws
 use Rattle.refusals.proofs.Tells.{outcome_tells}
 use Rattle.refusals.proofs.OneAnswer.{OneAnswer, viewed}
 use Rattle.tables.proofs.Tells.{extension_tells, entry_tells, update_tells, dated_tells}
+use Rattle.tables.proofs.Dated.new.Reads as dated_new_contract
 use Rattle.tables.proofs.LeapEntry.new.Reads as entry_new_contract
 use Rattle.tables.proofs.LeapTable.new.Reads as new_contract
 use Rattle.tables.proofs.LeapTable.from_lists.Reads as from_lists_contract
@@ -15,6 +18,11 @@ use Rattle.tables.proofs.LeapTable.current_tai_minus_utc.Reads as current_tai_mi
 use Rattle.tables.proofs.LeapTable.tai_minus_utc_at.Reads as tai_minus_utc_at_contract
 use Rattle.tables.proofs.LeapTable.expiry.Reads as expiry_contract
 use Rattle.tables.proofs.LeapTable.with_expiry.Reads as with_expiry_contract
+
+-- whatever the answer's type
+module _ (T : denote.RattleType.RattleType) (L : denote.Param.Laws.Laws T) where
+  pub dated_new : OneAnswer (dated_new_contract.Post T L)
+  dated_new κ a x y e f p q = viewed dated_tells x y p q
 
 pub entry_new : OneAnswer entry_new_contract.Post
 entry_new κ a x y e f p q = p ∙ sym q

@@ -34,3 +34,6 @@ tai_saturating_sub_duration κ a x y e f p q = viewed tai_count_tells x y p q
 
 pub tai_checked_elapsed : OneAnswer TaiScale.checked_elapsed.Reads.Post
 tai_checked_elapsed κ a x y e f p q = viewed duration_tells x y p q
+
+pub tai_sub_second_nanos : OneAnswer TaiScale.sub_second_nanos.Reads.Post
+tai_sub_second_nanos κ a x y e f p q = p ∙ sym q

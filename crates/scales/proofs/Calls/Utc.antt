@@ -34,3 +34,6 @@ utc_saturating_sub_duration κ a x y e f p q = viewed utc_count_tells x y p q
 
 pub utc_checked_elapsed : OneAnswer UtcScale.checked_elapsed.Reads.Post
 utc_checked_elapsed κ a x y e f p q = viewed duration_tells x y p q
+
+pub utc_sub_second_nanos : OneAnswer UtcScale.sub_second_nanos.Reads.Post
+utc_sub_second_nanos κ a x y e f p q = p ∙ sym q
