@@ -146,12 +146,6 @@ module _ (xs : List ℕ) (zs : List ℤ) (n : ℕ) (h : n ≤ length xs) (h' : n
   full_slots e l =
       of-last (λ es p. join_refusal es e ≡ 5) (omega arith) (λ p ps s. rw (le-leb 64 (length (p ∷ ps)) (omega arith)))
 
-  pub by_last_slot : (e : Entry) → 0 < n → n < 64 → join_refusal (slots xs zs n) e ≡ step_refusal (slot_at xs zs (n - 1)) e
-  unfolding join_refusal
-  by_last_slot e p l =
-      of-last (λ es q. join_refusal es e ≡ step_refusal q e) p
-      (λ q qs s. rw (lt-leb 64 (length (q ∷ qs)) (omega arith)))
-
   pub current_slot : 0 < n → current_offset (slots xs zs n) ≡ get_or zs (n - 1) (pos 0)
   unfolding current_offset
   current_slot p = of-last (λ es q. current_offset es ≡ offset q) p (λ q qs s. refl)

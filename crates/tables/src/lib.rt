@@ -39,6 +39,7 @@ impl LeapEntry {
 // The expiry of a table that has none: the largest count.
 pub const NO_EXPIRY: u64 = LARGEST_COUNT;
 
+// Thresholds and offsets are two arrays since theorems of demands name them.
 // Up to 64 entries: those in the first `len` slots. From the TAI reading `expiry` on, the table is stale.
 #[derive(Clone, Copy)]
 pub struct LeapTable {
@@ -79,15 +80,7 @@ impl<T> Dated<T> {
     pub fn new(answer: Result<T, Refusal>, stale: bool) -> Self
         ensures { dated_in result ≡ dated stale (outcome_in answer) }
     {
-        match answer {
-            Ok(value) => Dated {
-                answer: Ok(value),
-                stale,
-            },
-            Err(why) => Dated {
-                answer: Err(why),
-                stale: false,
-            },
-        }
+        let stale = stale && answer.is_ok();
+        Dated { answer, stale }
     }
 }
