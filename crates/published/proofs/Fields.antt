@@ -55,6 +55,11 @@ part_in_line s from used h x =
     let same = ap until_end (drop-drop used from s) in
     (omega (arith, x.0, same), omega (arith, x.1, length-drop from s, h))
 
+-- a text, and then one from where it ends
+pub both_in_line : (s : List ℕ) (from used : ℕ) → NoEndBetween s 0 from → NoEndBetween (drop from s) 0 used
+    → NoEndBetween s 0 (from + used)
+both_in_line s from used x y = in_one_line s 0 from (from + used) x (part_in_line s from used x.1 y)
+
 module _ (comment : Bool) (s : List ℕ) where
   abbrev field : Outcome ℕ
   field = in64_bits (field_read (opens comment) (first_line s))
@@ -62,7 +67,7 @@ module _ (comment : Bool) (s : List ℕ) where
   pub no_blank : begins false is_blank s ≡ false → refused 12 ≡ field
   no_blank e = rw (field-line comment s, e)
 
-  module _ (start : ℕ) (blanks : Passed is_blank s 0 start) where
+  module _ (start : ℕ) (blanks : Passed is_blank s start) where
     abbrev read : Outcome ℕ
     read = count_read (take_while is_digit (drop start s))
 
@@ -71,13 +76,20 @@ module _ (comment : Bool) (s : List ℕ) where
         let ended = begins true (ends_field comment) (drop_while is_blank (drop_while is_digit (drop start s))) in
         rw (field-line comment s, ← blanks.0) (none-unless (begins false is_blank s && ended) read e)
 
-    module _ (n i : ℕ) (is : answered n ≡ in64_bits read) (digits : Passed is_digit s start i) (stop : ℕ)
-        (blanks-on : Passed is_blank s i stop) where
+    module _ (n width : ℕ) (is : answered n ≡ in64_bits read) (digits : Passed is_digit (drop start s) width) (more : ℕ)
+        (blanks-on : Passed is_blank (drop (start + width) s) more) where
+      abbrev stop : ℕ
+      stop = start + width + more
+
+      after-digits : drop (start + width) s ≡ drop_while is_digit (drop_while is_blank s)
+      after-digits = sym (drop-drop width start s) ∙ digits.0 ∙ ap (drop_while is_digit) blanks.0
+
       after-all : drop stop s ≡ drop_while is_blank (drop_while is_digit (drop_while is_blank s))
-      after-all = blanks-on.0 ∙ ap (drop_while is_blank) (digits.0 ∙ ap (drop_while is_digit) blanks.0)
+      after-all = sym (drop-drop more (start + width) s) ∙ blanks-on.0 ∙ ap (drop_while is_blank) after-digits
 
       pub ends : NoEndBetween s 0 stop
-      ends = in_one_line s 0 start stop blanks.1 (in_one_line s start i stop digits.1 blanks-on.1)
+      ends =
+          both_in_line s (start + width) more (both_in_line s start width blanks.1 digits.1) blanks-on.1
 
       pub not_ended : begins true (ends_field comment) (drop stop s) ≡ false → refused 12 ≡ field
       not_ended e = rw (field-line comment s, ← after-all, e, and-false)

@@ -3,16 +3,18 @@
 use mathlib.Core.Path.{◌≡◌, refl, sym, ap, ◌∙◌}
 use mathlib.Core.Bool.{Bool, true, false, cond, ◌&&◌, ◌||◌, true≢false, or-true, or-false}
 use mathlib.Core.List.{List, [], ◌∷◌}
-use Prim.Native.Nat.{ℕ, zero, suc, ◌+◌, ◌≤◌, ◌<◌}
+use Prim.Native.Nat.{ℕ, suc, ◌+◌, ◌-◌, ◌≤◌, ◌<◌}
 use native.Mathlib.Numerals.{add-one}
 use native.Mathlib.Decide.{dec_lt}
 use native.Mathlib.Omega.{arith}
 use borrow.Author.Tests.{eqb-true, ne_eqb}
 use lib.Dec.{eqb}
-use lib.ListN.{length, get_or, take, drop, length-drop, drop_of_length-le, get_or-eq_default}
-use lib.Seq.{drop-cons, get_or-take, get_or-drop, length-take-le}
+use lib.ListN.{length, get_or, drop, drop_of_length-le, get_or-eq_default}
+use lib.Seq.{drop-cons, length-take-le}
 use Rattle.refusals.specs.Outcome.{refused}
 use Rattle.words.specs.Decimal.{is_digit, count_read}
+use Rattle.std.proofs.Common.{rules}
+use Rattle.std.specs.List.{ends_with}
 use Rattle.texts.specs.Ends.{until_end}
 use Rattle.texts.proofs.FirstLine.{until_within}
 use Rattle.published.specs.LeapSecondsList.{take_while, drop_while, begins, is_blank, ends_in_return}
@@ -101,19 +103,13 @@ field-line comment s =
     )
 
 -- ---- the last byte of a line
-ends_by : (l : List ℕ) (k : ℕ) → length l ≡ suc k → ends_in_return l ≡ eqb (get_or l k 0) 13
+pub return_ends : (l : List ℕ) → ends_with eqb l (13 ∷ []) ≡ ends_in_return l
 unfolding ends_in_return
-ends_by [] k h = absurd (omega arith)
-ends_by (b ∷ []) zero h = refl
-ends_by (b ∷ []) (suc k) h = absurd (omega arith)
-ends_by (b ∷ c ∷ cs) zero h = absurd (omega arith)
-ends_by (b ∷ c ∷ cs) (suc k) h = rw (ne_eqb (length (c ∷ cs)) 0 (λ e. omega arith)) (ends_by (c ∷ cs) k (omega arith))
-
-pub return_at : (s : List ℕ) (at k : ℕ) → at + suc k ≤ length s
-    → ends_in_return (take (suc k) (drop at s)) ≡ eqb (get_or s (at + k) 0) 13
-return_at s at k h =
-    ends_by (take (suc k) (drop at s)) k (length-take-le (suc k) (drop at s) (omega (arith, length-drop at s)))
-    ∙ rw (get_or-take (suc k) (drop at s) k 0 (omega arith), get_or-drop at s k 0)
+return_ends [] = refl
+return_ends (b ∷ []) = search rules
+return_ends (b ∷ c ∷ cs) =
+    let k : length (b ∷ c ∷ cs) - 1 ≡ suc (length (c ∷ cs) - 1) = omega arith in
+    rw (k, ne_eqb (length (c ∷ cs)) 0 (λ e. omega arith)) (return_ends (c ∷ cs))
 
 -- blanks end in no return
 no_return : (b : ℕ) → is_blank b ≡ true → eqb b 13 ≡ false

@@ -1,57 +1,114 @@
--- The bytes that pass a test, one by one from a place on.
-use mathlib.Core.Path.{◌≡◌, sym, ◌∙◌}
-use mathlib.Core.Bool.{Bool, true, false, true≢false}
+-- The leading bytes that pass a test: how many they are, what they are, and what comes after them.
+use mathlib.Core.Path.{◌≡◌, refl, ap, ◌∙◌}
+use mathlib.Core.Bool.{Bool, true, false, cond, true≢false}
 use mathlib.Core.List.{List, [], ◌∷◌}
-use Prim.Native.Nat.{ℕ, ◌+◌, ◌≤◌, ◌<◌}
-use native.Mathlib.Numerals.{add-one}
+use Prim.Native.Nat.{ℕ, suc, ◌+◌, ◌-◌, ◌≤◌, ◌<◌}
 use native.Mathlib.Omega.{arith}
-use lib.ListN.{length, get_or, drop, drop_of_length-le}
-use lib.Seq.{drop-cons}
-use Rattle.texts.proofs.LineEnds.{passed}
-use Rattle.published.specs.LeapSecondsList.{take_while, drop_while}
-use Rattle.published.specs.Places.{Passed, Passing}
+use borrow.Author.Tests.{eqb-true}
+use lib.Dec.{eqb}
+use lib.ListN.{length, get_or, take, drop, length-drop}
+use lib.Seq.{take_all}
+use Rattle.std.specs.List.{prefix_len}
+use Rattle.std.specs.Prelude.{None, Some, Result, Ok, Err}
+use Rattle.std.specs.Result.{result_ok}
+use Rattle.refusals.specs.Outcome.{Outcome, answered, refused, outcome_in}
+use Rattle.refusals.specs.declared.Refusal.{Refusal}
+use Rattle.texts.specs.Ends.{until_end}
+use Rattle.published.specs.LeapSecondsList.{take_while, drop_while, begins}
+use Rattle.published.specs.Places.{Passed, in64_bits}
 
--- the byte at a place inside
-module _ (test : ℕ → Bool) (s : List ℕ) (i : ℕ) (inside : i < length s) where
-  pub drop_on : test (get_or s i 0) ≡ true → drop_while test (drop i s) ≡ drop_while test (drop (i + 1) s)
-  unfolding drop_while
-  drop_on e = rw (add-one, drop-cons s i 0 inside, e)
+-- the text from a place on, as the code takes it
+pub is_rest : (s : List ℕ) (at : ℕ) → take (length s - at) (drop at s) ≡ drop at s
+is_rest s at = take_all (length s - at) (drop at s) (omega (arith, length-drop at s))
 
-  pub drop_here : test (get_or s i 0) ≡ false → drop_while test (drop i s) ≡ drop i s
-  unfolding drop_while
-  drop_here e = rw (drop-cons s i 0 inside, e)
+module _ (test : ℕ → Bool) where
+  one_more : (b : ℕ) (s : List ℕ) → test b ≡ true → prefix_len test (b ∷ s) ≡ suc (prefix_len test s)
+  one_more b s e = let n : 1 + prefix_len test s ≡ suc (prefix_len test s) = omega arith in rw (e, n)
 
-  pub take_on : test (get_or s i 0) ≡ true → take_while test (drop i s) ≡ get_or s i 0 ∷ take_while test (drop (i + 1) s)
+  pub take_leading : (s : List ℕ) → take (prefix_len test s) s ≡ take_while test s
   unfolding take_while
-  take_on e = rw (add-one, drop-cons s i 0 inside, e)
+  take_leading [] = refl
+  take_leading (b ∷ s) = by_byte (test b) refl (take_leading s)
+    where
+      by_byte : (t : Bool) → test b ≡ t → take (prefix_len test s) s ≡ take_while test s
+          → take (prefix_len test (b ∷ s)) (b ∷ s) ≡ cond (test b) (b ∷ take_while test s) []
+      by_byte true e rest = rw (one_more b s e, e) (ap (λ xs. b ∷ xs) rest)
+      by_byte false e rest = rw e
 
-  pub take_here : test (get_or s i 0) ≡ false → take_while test (drop i s) ≡ []
+  pub drop_leading : (s : List ℕ) → drop (prefix_len test s) s ≡ drop_while test s
+  unfolding drop_while
+  drop_leading [] = refl
+  drop_leading (b ∷ s) = by_byte (test b) refl (drop_leading s)
+    where
+      by_byte : (t : Bool) → test b ≡ t → drop (prefix_len test s) s ≡ drop_while test s
+          → drop (prefix_len test (b ∷ s)) (b ∷ s) ≡ cond (test b) (drop_while test s) (b ∷ s)
+      by_byte true e rest = rw (one_more b s e, e) rest
+      by_byte false e rest = rw e
+
+  pub leading_within : (s : List ℕ) → prefix_len test s ≤ length s
+  leading_within [] = omega arith
+  leading_within (b ∷ s) = by_byte (test b) refl (leading_within s)
+    where
+      by_byte : (t : Bool) → test b ≡ t → prefix_len test s ≤ length s → prefix_len test (b ∷ s) ≤ length (b ∷ s)
+      by_byte true e rest = rw (one_more b s e) (omega (arith, rest))
+      by_byte false e rest = rw e (omega arith)
+
+  -- there is one exactly if the first byte passes
+  pub none_leads : (s : List ℕ) → prefix_len test s ≡ 0 → begins false test s ≡ false
+  none_leads [] z = refl
+  none_leads (b ∷ s) z = by_byte (test b) refl
+    where
+      by_byte : (t : Bool) → test b ≡ t → test b ≡ false
+      by_byte true e = absurd (omega (arith, z, one_more b s e))
+      by_byte false e = e
+
+  pub one_leads : (s : List ℕ) → (prefix_len test s ≡ 0 → ⊥) → begins false test s ≡ true
+  one_leads [] n = absurd (n refl)
+  one_leads (b ∷ s) n = by_byte (test b) refl
+    where
+      by_byte : (t : Bool) → test b ≡ t → test b ≡ true
+      by_byte true e = e
+      by_byte false e = absurd (n (rw e))
+
+  -- the byte after them
+  pub first_here : (s : List ℕ) → 0 < length s → test (get_or s 0 0) ≡ false → take_while test s ≡ []
   unfolding take_while
-  take_here e = rw (drop-cons s i 0 inside, e)
+  first_here [] l e = absurd (omega arith)
+  first_here (b ∷ s) l e = rw e
 
--- no byte is left
-pub drop_none : (test : ℕ → Bool) (s : List ℕ) (i : ℕ) → length s ≤ i → drop_while test (drop i s) ≡ drop i s
-unfolding drop_while
-drop_none test s i h = rw (drop_of_length-le s {i = i} h)
+  pub stays_here : (s : List ℕ) → 0 < length s → test (get_or s 0 0) ≡ false → drop_while test s ≡ s
+  unfolding drop_while
+  stays_here [] l e = absurd (omega arith)
+  stays_here (b ∷ s) l e = rw e
 
-pub take_none : (test : ℕ → Bool) (s : List ℕ) (i : ℕ) → length s ≤ i → take_while test (drop i s) ≡ []
-unfolding take_while
-take_none test s i h = rw (drop_of_length-le s {i = i} h)
+  -- by a test that a line end does not pass they are in one line
+  module _ (in_line : test 10 ≡ false) where
+    no_end : (b : ℕ) → test b ≡ true → eqb b 10 ≡ false
+    no_end b e = by_byte (eqb b 10) refl
+      where
+        by_byte : (t : Bool) → eqb b 10 ≡ t → eqb b 10 ≡ false
+        by_byte true f = absurd (true≢false (rw e at (ap test (eqb-true b 10 f) ∙ in_line)))
+        by_byte false f = f
 
--- ---- a search for the first byte that does not pass, in one line
--- a test that a line end does not pass
-module _ (test : ℕ → Bool) (in_line : test 10 ≡ false) (s : List ℕ) (at i : ℕ) (so_far : Passing test s at i) where
-  not_end : test (get_or s i 0) ≡ true → get_or s i 0 ≡ 10 → ⊥
-  not_end e is = true≢false (sym e ∙ rw is in_line)
+    until_leading : (s : List ℕ) → until_end s ≡ prefix_len test s + until_end (drop (prefix_len test s) s)
+    until_leading [] = refl
+    until_leading (b ∷ s) = by_byte (test b) refl (until_leading s)
+      where
+        by_byte : (t : Bool) → test b ≡ t → until_end s ≡ prefix_len test s + until_end (drop (prefix_len test s) s)
+            → until_end (b ∷ s) ≡ prefix_len test (b ∷ s) + until_end (drop (prefix_len test (b ∷ s)) (b ∷ s))
+        by_byte true e rest = rw (one_more b s e, no_end b e) (omega (arith, rest))
+        by_byte false e rest = rw e (omega arith)
 
-  pub passes_on : i < length s → test (get_or s i 0) ≡ true → Passing test s at (i + 1)
-  passes_on inside e = (
-    so_far.0 ∙ drop_on test s i inside e,
-    (omega (arith, so_far.1.0, passed s i inside (not_end e)), omega arith),
-  )
+    pub passed_all : (s : List ℕ) (i : ℕ) → i ≡ prefix_len test s → Passed test s i
+    passed_all s i is = rw is (drop_leading s, (omega (arith, until_leading s), leading_within s))
 
-  pub stops_here : i < length s → test (get_or s i 0) ≡ false → Passed test s at i
-  stops_here inside e = (sym (so_far.0 ∙ drop_here test s i inside e), so_far.1)
+-- ---- what is read of the leading digits
+-- a result's answer, or none, is the outcome
+pub read_none : (r : Result ℕ Refusal) → result_ok r ≡ None → (x : Outcome ℕ) → outcome_in r ≡ x → refused 12 ≡ in64_bits x
+read_none (Ok n) e x is = cc
+read_none (Err why) e x is = rw (← is)
 
-  pub stops_at_end : length s ≤ i → Passed test s at i
-  stops_at_end h = (sym (so_far.0 ∙ drop_none test s i h), so_far.1)
+pub read_some : (r : Result ℕ Refusal) (n : ℕ) → result_ok r ≡ Some n → (x : Outcome ℕ) → outcome_in r ≡ x
+    → answered n ≡ in64_bits x
+read_some (Ok m) n e x is = rw (← is) (ap answered (cc))
+read_some (Err why) n e x is = cc

@@ -1,6 +1,5 @@
 -- The published leap-seconds.list: what a line of it is, and the table that the whole makes.
-use Rattle.std.specs.Prelude.{Bool, true, false, cond, ◌&&◌, ◌||◌, List, [], ◌∷◌, ℕ, suc, ◌+◌, ◌-◌, ◌^◌, eqb, ltb, length, drop, ℤ, pos, ◌+ℤ◌}
-use Rattle.std.proofs.Math.Option.{Option, none, some}
+use Rattle.std.specs.Prelude.{Bool, true, false, cond, ◌&&◌, ◌||◌, List, [], ◌∷◌, ℕ, suc, ◌+◌, ◌-◌, ◌^◌, eqb, ltb, length, drop, ℤ, pos, ◌+ℤ◌, Option, None, Some}
 use Rattle.std.proofs.Math.IntN.{sub_ℕ}
 use Rattle.refusals.specs.Outcome.{Outcome, answered, refused}
 use Rattle.words.specs.Decimal.{is_digit, count_read}
@@ -129,11 +128,11 @@ records_in (l ∷ ls) = with_record (line_read l) (records_in ls)
 abbrev pub expiry_or : Line → Option ℕ → Option ℕ
 expiry_or passes later = later
 expiry_or (holds r) later = later
-expiry_or (expires ntp) later = some ntp
+expiry_or (expires ntp) later = Some ntp
 expiry_or malformed later = later
 
 unfoldable pub first_expiry : List (List ℕ) → Option ℕ
-first_expiry [] = none
+first_expiry [] = None
 first_expiry (l ∷ ls) = expiry_or (line_read l) (first_expiry ls)
 
 -- the offset of the last record, where the one before them all is n
@@ -143,8 +142,8 @@ last_offset n (r ∷ rs) = last_offset r.offset rs
 
 -- the TAI second of an expiry by an offset
 abbrev pub expiry_second : Option ℕ → ℤ → Option ℤ
-expiry_second none n = none
-expiry_second (some ntp) n = some (sub_ℕ ntp 2_524_953_600 +ℤ n)
+expiry_second None n = None
+expiry_second (Some ntp) n = Some (sub_ℕ ntp 2_524_953_600 +ℤ n)
 
 -- the table of records and an expiry in NTP seconds, which the last record's offset brings to TAI
 abbrev pub table_with : Option ℕ → List Record → ℕ × LeapTable

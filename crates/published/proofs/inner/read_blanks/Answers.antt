@@ -1,28 +1,32 @@
 -- A line of blanks passes; any other that begins with neither a digit nor a comment is malformed.
-use Rattle.std.proofs.Common.{ap, arith}
-use lib.ListN.{drop_of_length-le}
-use Rattle.texts.specs.Ends.{until_end}
-use Rattle.texts.proofs.LineEnds.{found}
-use Rattle.published.proofs.LineKinds.{not_empty, blanks_pass, blanks_fail}
+use Rattle.std.proofs.Common.{drop, refl, sym, ◌∙◌, arith}
+use Rattle.published.specs.LeapSecondsList.{is_blank}
+use Rattle.published.proofs.Parts.{is_rest, passed_all}
+use Rattle.published.proofs.Expiries.{line_ends, line_goes_on}
+use Rattle.published.proofs.LineKinds.{blanks_pass, blanks_fail}
 use Rattle.published.proofs.inner.read_blanks.Goals as goal
 
-pub returns-then-end-s-clause-is : goal.returns-then-end-s-clause-is
-returns-then-end-s-clause-is c =
+pub returns-then-may_end-clause-is : goal.returns-then-may_end-clause-is
+returns-then-may_end-clause-is c =
     let s = c.args.s.now in
-    let end = c.skip_blanks-end.result in
-    blanks_pass s c.args.at c.requires.at_in_bounds c.requires.at_value_2 end c.skip_blanks-end.ensures
-    (ap until_end (drop_of_length-le s {i = end} (omega arith)))
+    let end = c.blanks-end.result in
+    let ended = rw (is_rest s end) at c.may_end.ensures in
+    blanks_pass s c.requires.some c.requires.hash end (passed_all is_blank refl s end c.blanks-end.ensures.value)
+    (line_ends (drop end s) (sym ended ∙ c.if-may_end.true))
 
-pub returns-then-s-end-eq-LINE_END-clause-is : goal.returns-then-s-end-eq-LINE_END-clause-is
-returns-then-s-end-eq-LINE_END-clause-is c =
+pub returns-then-may_end-clause-ends : goal.returns-then-may_end-clause-ends
+returns-then-may_end-clause-ends c =
     let s = c.args.s.now in
-    let end = c.skip_blanks-end.result in
-    blanks_pass s c.args.at c.requires.at_in_bounds c.requires.at_value_2 end c.skip_blanks-end.ensures
-    (found s end (omega arith) c.if-s-end-eq-LINE_END.true)
+    let end = c.blanks-end.result in
+    let ended = rw (is_rest s end) at c.may_end.ensures in
+    let none = line_ends (drop end s) (sym ended ∙ c.if-may_end.true) in
+    let blanks = passed_all is_blank refl s end c.blanks-end.ensures.value in
+    (omega (arith, blanks.1.0, none), tt)
 
-pub returns-else-s-end-eq-LINE_END-clause-is : goal.returns-else-s-end-eq-LINE_END-clause-is
-returns-else-s-end-eq-LINE_END-clause-is c =
+pub returns-else-may_end-clause-is : goal.returns-else-may_end-clause-is
+returns-else-may_end-clause-is c =
     let s = c.args.s.now in
-    let end = c.skip_blanks-end.result in
-    blanks_fail s c.args.at c.requires.at_in_bounds c.requires.at_value_2 end c.skip_blanks-end.ensures
-    c.requires.at_value (not_empty s end (omega arith) c.if-s-end-eq-LINE_END.false)
+    let end = c.blanks-end.result in
+    let ended = rw (is_rest s end) at c.may_end.ensures in
+    blanks_fail s c.requires.some c.requires.hash end (passed_all is_blank refl s end c.blanks-end.ensures.value)
+    c.requires.digit (line_goes_on (drop end s) (sym ended ∙ c.if-may_end.false))

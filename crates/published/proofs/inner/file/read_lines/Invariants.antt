@@ -8,10 +8,10 @@ use Rattle.published.proofs.inner.file.read_lines.Given as goal
 abbrev pub invariant-loop-at : goal.invariant-loop-at
 invariant-loop-at l = record {
   past : List Record;
-  read : ReadTo l.s past l.dated l.expiry l.line l.at;
-  held : Holds past l.thresholds l.offsets l.seen;
+  read : ReadTo l.s past l.expiry l.line l.at;
+  held : Holds past l.gathered;
   counted : l.records ≡ length past;
-  kept : l.seen.count < l.line;
+  kept : l.gathered.seen.count < l.line;
   held_few : l.records < l.line;
 }
 
