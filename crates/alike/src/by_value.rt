@@ -7,18 +7,14 @@ ghost use Rattle.alike.specs.Alike.{alike};
 use crate::{Alike, inner};
 use refusals::Refusal;
 use tables::LeapTable;
-use tables::inner::slots::is_valid;
+use tables::inner::slots::Slots;
 
 // Refuses 8 for the old table, 8 for the new one, then 1 where a count from which on they may differ does not fit.
 pub fn alike(old: LeapTable, new: LeapTable) -> Result<Alike, Refusal>
     ensures { outcome_in result ≡ of_valid old (of_valid new (alike (entries_of old) (entries_of new))) }
 {
-    if !is_valid(&old) {
-        return Err(Refusal::BadTable);
-    }
-    if !is_valid(&new) {
-        return Err(Refusal::BadTable);
-    }
-    let regular = inner::both_regular(old, new);
-    inner::told(regular, inner::parting_of(old, new))
+    let old = Slots::of(&old)?;
+    let new = Slots::of(&new)?;
+    let regular = old.is_regular() && new.is_regular();
+    inner::told(regular, inner::parting_of(&old, &new))
 }
