@@ -1,28 +1,34 @@
 -- The search for a line end: what bytes without one say, and what a step of the search finds.
-use mathlib.Core.Path.{◌≡◌, refl, sym, ap}
+use mathlib.Core.Path.{◌≡◌, refl, sym, ap, ◌∙◌}
 use mathlib.Core.Bool.{Bool, true, false, cond, not, ◌&&◌}
-use mathlib.Core.List.{List, [], ◌∷◌}
-use Prim.Native.Nat.{ℕ, zero, suc, ◌+◌, ◌≤◌, ◌<◌}
+use mathlib.Core.List.{List, [], ◌∷◌, ◌++◌}
+use Prim.Native.Nat.{ℕ, suc, ◌+◌, ◌≤◌, ◌<◌}
 use native.Mathlib.Nat.{zero-add, suc-add}
 use native.Mathlib.Numerals.{add-one}
 use native.Mathlib.Omega.{arith}
 use borrow.Author.Tests.{eq-eqb, ne_eqb, eqb-true, not-true}
 use lib.Dec.{eqb}
-use lib.ListN.{length, get_or, take, drop}
-use lib.Seq.{drop-cons}
+use lib.ListN.{length, get_or, take, drop, length-append, length-drop}
+use lib.Seq.{drop-cons, drop-drop, drop-append_seam}
 use Rattle.words.proofs.WayBack.{first_half, second_half}
-use Rattle.texts.specs.Ends.{has_no_end, until_end}
+use Rattle.std.specs.List.{fold}
+use Rattle.std.specs.Prelude.{◌==◌}
+use Rattle.texts.specs.Ends.{has_no_end, until_end, NoEndBetween}
 
 -- the byte at a place inside, and those after it
 module _ (s : List ℕ) (i : ℕ) (inside : i < length s) where
-  pub opened : has_no_end (drop i s) ≡ (not (eqb (get_or s i 0) 10) && has_no_end (drop (i + 1) s))
-  opened = rw (add-one, drop-cons s i 0 inside)
-
   pub found : get_or s i 0 ≡ 10 → until_end (drop i s) ≡ 0
   found e = rw (drop-cons s i 0 inside, eq-eqb (get_or s i 0) 10 e)
 
   pub passed : (get_or s i 0 ≡ 10 → ⊥) → until_end (drop i s) ≡ suc (until_end (drop (i + 1) s))
   passed e = rw (add-one, drop-cons s i 0 inside, ne_eqb (get_or s i 0) 10 e)
+
+-- the bytes tested one after the other, from the test of those before
+pub folded : (s : List ℕ) (before : Bool) → fold (λ none b. none && not (b == 10)) before s ≡ (before && has_no_end s)
+folded [] true = refl
+folded [] false = refl
+folded (b ∷ s) true = folded s (not (eqb b 10))
+folded (b ∷ s) false = folded s false
 
 -- no byte ends a line: not the first, and none of the others
 pub no_end : (b : ℕ) (bs : List ℕ) → has_no_end (b ∷ bs) ≡ true → (eqb b 10 ≡ false) × (has_no_end bs ≡ true)
@@ -30,14 +36,24 @@ no_end b bs e =
     let here = not (eqb b 10) in
     (not-true (eqb b 10) (first_half here (has_no_end bs) e), second_half here (has_no_end bs) e)
 
--- k bytes without an end are passed over
-pub passed_over : (k : ℕ) (s : List ℕ) → k ≤ length s → has_no_end (take k s) ≡ true
-    → until_end s ≡ k + until_end (drop k s)
-passed_over zero s h e = sym (zero-add (until_end s))
-passed_over (suc k) [] h e = omega arith
-passed_over (suc k) (b ∷ s) h e =
-    let free = no_end b (take k s) e in
-    rw (free.0, suc-add) (ap suc (passed_over k s (omega arith) free.1))
+-- bytes without an end are passed over
+passed_over : (w rest : List ℕ) → has_no_end w ≡ true → until_end (w ++ rest) ≡ length w + until_end rest
+passed_over [] rest e = sym (zero-add (until_end rest))
+passed_over (b ∷ w) rest e =
+    let free = no_end b w e in
+    rw (free.0, suc-add) (ap suc (passed_over w rest free.1))
+
+-- and so is a window of them, from a place on
+module _ (s w rest : List ℕ) (at i : ℕ) (here : drop i s ≡ w ++ rest) (size : length w ≡ 16) where
+  pub rest_is : rest ≡ drop (i + 16) s
+  rest_is = rw size at (sym (drop-append_seam w rest)) ∙ sym (ap (drop 16) here) ∙ drop-drop 16 i s
+
+  pub window_passed : NoEndBetween s at i → has_no_end w ≡ true → NoEndBetween s at (i + 16)
+  window_passed before free =
+      let next : until_end (drop i s) ≡ 16 + until_end (drop (i + 16) s)
+      = rw (here, ← rest_is, ← size) (passed_over w rest free) in
+      let room : length (drop i s) ≡ length w + length rest = rw here (length-append w rest) in
+      (omega (arith, next, before.0), omega (arith, room, length-drop i s))
 
 -- the first k bytes end no line, and the one after them does
 abbrev pub EndsAt : ℕ → List ℕ → Type 0
