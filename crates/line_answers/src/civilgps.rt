@@ -9,6 +9,7 @@ ghost use Rattle.line_answers.specs.Civilgps.{gps_of_line, answer_to};
 
 use crate::LONGEST_ANSWER;
 use lines::inner::put::put_refused;
+use refusals::Refusal;
 use scales::gps::Gps;
 use texts::inner::LINE_END;
 use words::inner::digits::put_count;
@@ -17,10 +18,7 @@ use words::inner::digits::put_count;
 fn gps_of_line(line: &[u8]) -> Result<Gps, Refusal>
     ensures { gps_in result ≡ gps_of_line line.now }
 {
-    match stamps::read(line) {
-        Ok(civil) => readings::by_builtin::civil_to_gps(civil),
-        Err(refusal) => Err(refusal),
-    }
+    readings::by_builtin::civil_to_gps(stamps::read(line)?)
 }
 
 // Writes a GPS count in digits, and a line end.

@@ -9,6 +9,7 @@ ghost use Rattle.line_answers.specs.Gpscivil.{reading_of_line, answer_to};
 use crate::LONGEST_ANSWER;
 use civil::CivilDateTime;
 use lines::inner::put::put_refused;
+use refusals::Refusal;
 use scales::gps::Gps;
 use texts::inner::LINE_END;
 
@@ -16,10 +17,7 @@ use texts::inner::LINE_END;
 fn reading_of_line(line: &[u8]) -> Result<CivilDateTime, Refusal>
     ensures { outcome_in result ≡ reading_of_line line.now }
 {
-    match words::digits::read_count(line) {
-        Ok(gps) => readings::by_builtin::gps_to_civil(Gps(gps)),
-        Err(refusal) => Err(refusal),
-    }
+    readings::by_builtin::gps_to_civil(Gps(words::digits::read_count(line)?))
 }
 
 // Writes a date and a time of day in the civil form, and a line end.

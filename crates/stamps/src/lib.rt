@@ -10,7 +10,6 @@ ghost use Rattle.stamps.specs.Form.{stamp_read};
 use civil::CivilDateTime;
 use refusals::Refusal;
 
-
 // The fields of 30 bytes in the form; any other bytes are refused.
 pub fn read(s: &[u8]) -> Result<CivilDateTime, Refusal>
     ensures { outcome_in result ≡ stamp_read s.now }

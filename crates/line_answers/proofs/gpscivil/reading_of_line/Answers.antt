@@ -1,12 +1,12 @@
 -- The civil reading of the GPS count, or why there is none.
-use Rattle.std.proofs.Common.{sym}
+use Rattle.std.proofs.Common.{rules}
 use Rattle.line_answers.specs.Gpscivil.{reading_of_line}
 use Rattle.line_answers.proofs.gpscivil.reading_of_line.Goals as goal
 
-pub returns-in-Ok : goal.returns-in-Ok
+pub returns : goal.returns
 unfolding reading_of_line
-returns-in-Ok c = rw (sym c.in-Ok.ensures) c.gps_to_civil.ensures
+returns c = search rules
 
-pub returns-in-Err : goal.returns-in-Err
+pub returns-in_err-read_count : goal.returns-in_err-read_count
 unfolding reading_of_line
-returns-in-Err c = rw (sym c.in-Err.ensures)
+returns-in_err-read_count c = search rules
