@@ -20,10 +20,8 @@ fn each_within(low: &[u8], high: &[u8], s: &[u8]) -> bool
     ensures { result ≡ within low.now high.now s.now }
 {
     let mut inside = true;
-    let mut i: usize = 0;
-    while i < s.len() {
-        inside = inside & between(low[i], s[i], high[i]);
-        i += 1;
+    for i in 0..s.len() {
+        inside &= between(low[i], s[i], high[i]);
     }
     inside
 }

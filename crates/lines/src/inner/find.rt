@@ -8,12 +8,6 @@ use crate::inner::put::put_bytes;
 
 const LINE_ROOM: usize = 128;
 
-fn least(a: usize, b: usize) -> usize
-    ensures { result ≡ min a b }
-{
-    if a < b { a } else { b }
-}
-
 // Keeps the bytes of the block from `at` to `end` in the line buffer, as many as there is room for. Returns how many
 // are used then.
 pub fn keep(line: &mut [u8], used: usize, block: &[u8], at: usize, end: usize) -> usize
@@ -23,7 +17,7 @@ pub fn keep(line: &mut [u8], used: usize, block: &[u8], at: usize, end: usize) -
     requires end_in_bounds { end ≤ length block.now }
     ensures { Keeps (line_up_to line.old used block.now at end) line.new result }
 {
-    let kept = least(end - at, LINE_ROOM - used);
+    let kept = (end - at).min(LINE_ROOM - used);
     let stop = at + kept;
     put_bytes(line, used, &block[at..stop]);
     used + kept
