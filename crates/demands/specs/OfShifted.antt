@@ -15,18 +15,18 @@ use Rattle.demands.specs.AnswersOf.galileo_to_utc as galileo_to_utc
 use Rattle.demands.specs.AnswersOf.utc_to_galileo as utc_to_galileo
 use Rattle.builtin.proofs.by_builtin.GalileoByBuiltin.to_utc.Reads as builtin_galileo_to_utc
 use Rattle.builtin.proofs.by_builtin.GalileoByBuiltin.from_utc.Reads as builtin_utc_to_galileo
-use Rattle.plaitgate.proofs.galileo_conversions.plaitgate_table_galileo_to_utc.Reads as host_galileo_to_utc
-use Rattle.plaitgate.proofs.galileo_conversions.plaitgate_table_utc_to_galileo.Reads as host_utc_to_galileo
-use Rattle.plaitgate.proofs.galileo_conversions.plaitgate_builtin_galileo_to_utc.Reads as host_builtin_galileo_to_utc
-use Rattle.plaitgate.proofs.galileo_conversions.plaitgate_builtin_utc_to_galileo.Reads as host_builtin_utc_to_galileo
+use Rattle.plaitgate.proofs.shifted.GalileoHostShifted.table_scale_to_utc.Reads as host_galileo_to_utc
+use Rattle.plaitgate.proofs.shifted.GalileoHostShifted.table_utc_to_scale.Reads as host_utc_to_galileo
+use Rattle.plaitgate.proofs.shifted.GalileoHostShifted.builtin_scale_to_utc.Reads as host_builtin_galileo_to_utc
+use Rattle.plaitgate.proofs.shifted.GalileoHostShifted.builtin_utc_to_scale.Reads as host_builtin_utc_to_galileo
 use Rattle.demands.specs.AnswersOf.beidou_to_utc as beidou_to_utc
 use Rattle.demands.specs.AnswersOf.utc_to_beidou as utc_to_beidou
 use Rattle.builtin.proofs.by_builtin.BeidouByBuiltin.to_utc.Reads as builtin_beidou_to_utc
 use Rattle.builtin.proofs.by_builtin.BeidouByBuiltin.from_utc.Reads as builtin_utc_to_beidou
-use Rattle.plaitgate.proofs.beidou_conversions.plaitgate_table_beidou_to_utc.Reads as host_beidou_to_utc
-use Rattle.plaitgate.proofs.beidou_conversions.plaitgate_table_utc_to_beidou.Reads as host_utc_to_beidou
-use Rattle.plaitgate.proofs.beidou_conversions.plaitgate_builtin_beidou_to_utc.Reads as host_builtin_beidou_to_utc
-use Rattle.plaitgate.proofs.beidou_conversions.plaitgate_builtin_utc_to_beidou.Reads as host_builtin_utc_to_beidou
+use Rattle.plaitgate.proofs.shifted.BeidouHostShifted.table_scale_to_utc.Reads as host_beidou_to_utc
+use Rattle.plaitgate.proofs.shifted.BeidouHostShifted.table_utc_to_scale.Reads as host_utc_to_beidou
+use Rattle.plaitgate.proofs.shifted.BeidouHostShifted.builtin_scale_to_utc.Reads as host_builtin_beidou_to_utc
+use Rattle.plaitgate.proofs.shifted.BeidouHostShifted.builtin_utc_to_scale.Reads as host_builtin_utc_to_beidou
 use Rattle.demands.specs.OfCalls.{Allows, TwoInstantsOf, Regular}
 
 pub record Demand3Shifted : Type 0 where

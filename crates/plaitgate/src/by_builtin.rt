@@ -26,28 +26,28 @@ pub extern "C" fn plaitgate_builtin_tai_minus_utc_at(tai: u64, offset: &mut i32)
 pub extern "C" fn plaitgate_glonass_to_utc(glonass: u64, utc: &mut u64) -> u32
     ensures { Gives 0 (up glonass_epoch glonass) result utc.new }
 {
-    give::count(steps::utc_from_glonass(Ok(glonass)), utc)
+    give::value(steps::utc_from_glonass(Ok(glonass)), 0, utc)
 }
 
 #[unsafe(no_mangle)]
 pub extern "C" fn plaitgate_utc_to_glonass(utc: u64, glonass: &mut u64) -> u32
     ensures { Gives 0 (down glonass_epoch utc) result glonass.new }
 {
-    give::count(steps::glonass_from_utc(Ok(utc)), glonass)
+    give::value(steps::glonass_from_utc(Ok(utc)), 0, glonass)
 }
 
 #[unsafe(no_mangle)]
 pub extern "C" fn plaitgate_builtin_gps_to_utc(gps: u64, utc: &mut u64) -> u32
     ensures { Gives 0 (gps_to_utc builtin gps) result utc.new }
 {
-    give::count(utc_from_gps(Ok(gps)), utc)
+    give::value(utc_from_gps(Ok(gps)), 0, utc)
 }
 
 #[unsafe(no_mangle)]
 pub extern "C" fn plaitgate_builtin_utc_to_gps(utc: u64, gps: &mut u64) -> u32
     ensures { Gives 0 (utc_to_gps builtin utc) result gps.new }
 {
-    give::count(gps_from_utc(Ok(utc)), gps)
+    give::value(gps_from_utc(Ok(utc)), 0, gps)
 }
 
 #[unsafe(no_mangle)]
@@ -55,7 +55,7 @@ pub extern "C" fn plaitgate_builtin_glonass_to_gps(glonass: u64, gps: &mut u64) 
     ensures { Gives 0 (glonass_to_gps builtin glonass) result gps.new }
 {
     let utc = steps::utc_from_glonass(Ok(glonass));
-    give::count(gps_from_utc(utc), gps)
+    give::value(gps_from_utc(utc), 0, gps)
 }
 
 #[unsafe(no_mangle)]
@@ -63,14 +63,14 @@ pub extern "C" fn plaitgate_builtin_gps_to_glonass(gps: u64, glonass: &mut u64) 
     ensures { Gives 0 (gps_to_glonass builtin gps) result glonass.new }
 {
     let utc = utc_from_gps(Ok(gps));
-    give::count(steps::glonass_from_utc(utc), glonass)
+    give::value(steps::glonass_from_utc(utc), 0, glonass)
 }
 
 #[unsafe(no_mangle)]
 pub extern "C" fn plaitgate_builtin_gps_from_unix_seconds(seconds: i64, gps: &mut u64) -> u32
     ensures { Gives 0 (unix_to_gps builtin seconds) result gps.new }
 {
-    give::count(gps_from_utc(unix::from_unix_seconds(seconds)), gps)
+    give::value(gps_from_utc(unix::from_unix_seconds(seconds)), 0, gps)
 }
 
 #[unsafe(no_mangle)]
@@ -78,5 +78,5 @@ pub extern "C" fn plaitgate_builtin_gps_as_unix_seconds(gps: u64, seconds: &mut 
     ensures { Gives (pos 0) (gps_to_unix builtin gps) result seconds.new }
 {
     let utc = utc_from_gps(Ok(gps));
-    give::unix(steps::unix_from_utc(utc), seconds)
+    give::value(steps::unix_from_utc(utc), 0, seconds)
 }

@@ -24,11 +24,7 @@ pub extern "C" fn plaitgate_table_gps_to_utc(
         (with_stale (dated_by_image image.now (λ es. gps + tai_minus_gps) (λ es. gps_to_utc es gps))) result
         (dated_as utc.new stale.new) }
 {
-    give::dated_count(
-        table::utc_from_gps(Ok(gps), image),
-        utc,
-        stale,
-    )
+    give::dated(table::utc_from_gps(Ok(gps), image), 0, utc, stale)
 }
 
 #[unsafe(no_mangle)]
@@ -42,11 +38,7 @@ pub extern "C" fn plaitgate_table_utc_to_gps(
         (with_stale (dated_by_image image.now (λ es. last_reading es utc) (λ es. utc_to_gps es utc))) result
         (dated_as gps.new stale.new) }
 {
-    give::dated_count(
-        table::gps_from_utc(Ok(utc), image),
-        gps,
-        stale,
-    )
+    give::dated(table::gps_from_utc(Ok(utc), image), 0, gps, stale)
 }
 
 #[unsafe(no_mangle)]
@@ -62,7 +54,7 @@ pub extern "C" fn plaitgate_table_glonass_to_gps(
         (dated_as gps.new stale.new) }
 {
     let utc = steps::utc_from_glonass(Ok(glonass));
-    give::dated_count(table::gps_from_utc(utc, image), gps, stale)
+    give::dated(table::gps_from_utc(utc, image), 0, gps, stale)
 }
 
 #[unsafe(no_mangle)]
@@ -77,7 +69,7 @@ pub extern "C" fn plaitgate_table_gps_to_glonass(
         (dated_as glonass.new stale.new) }
 {
     let utc = table::utc_from_gps(Ok(gps), image);
-    give::dated_count(dated::glonass_from_utc(utc), glonass, stale)
+    give::dated(dated::glonass_from_utc(utc), 0, glonass, stale)
 }
 
 #[unsafe(no_mangle)]
@@ -93,7 +85,7 @@ pub extern "C" fn plaitgate_table_gps_from_unix_seconds(
         (dated_as gps.new stale.new) }
 {
     let utc = unix::from_unix_seconds(seconds);
-    give::dated_count(table::gps_from_utc(utc, image), gps, stale)
+    give::dated(table::gps_from_utc(utc, image), 0, gps, stale)
 }
 
 #[unsafe(no_mangle)]
@@ -108,5 +100,5 @@ pub extern "C" fn plaitgate_table_gps_as_unix_seconds(
         (dated_as seconds.new stale.new) }
 {
     let utc = table::utc_from_gps(Ok(gps), image);
-    give::dated_unix(dated::unix_from_utc(utc), seconds, stale)
+    give::dated(dated::unix_from_utc(utc), 0, seconds, stale)
 }

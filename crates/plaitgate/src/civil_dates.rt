@@ -1,4 +1,5 @@
-// Dates of any fields, and the days, seconds and nanoseconds between them.
+// Dates of any fields, and the days, seconds and nanoseconds between them. C has a name for each call, and passes the
+// fields of a date one by one.
 ghost use Rattle.std.specs.Prelude.{◌≡◌, pos};
 ghost use Rattle.refusals.specs.Outcome.{Gives, answered};
 ghost use Rattle.calendar.specs.Calendar.{on};
@@ -20,8 +21,7 @@ pub extern "C" fn plaitgate_civil_date_new(
         (on date_year.new date_month.new date_day.new) }
 {
     let date = CivilDate::new(year, month, day);
-    let new_year = date.year;
-    *date_year = new_year;
+    *date_year = date.year;
     *date_month = date.month;
     *date_day = date.day;
     0
@@ -37,7 +37,7 @@ pub extern "C" fn plaitgate_civil_date_days_from_unix(
     ensures { Gives (pos 0) (days_from_unix (on year month day)) result days.new }
 {
     let date = CivilDate { year, month, day };
-    give::span(date.days_from_unix(), days)
+    give::value(date.days_from_unix(), 0, days)
 }
 
 #[unsafe(no_mangle)]
@@ -59,7 +59,7 @@ pub extern "C" fn plaitgate_civil_date_days_until(
         month: other_month,
         day: other_day,
     };
-    give::span(date.days_until(other), days)
+    give::value(date.days_until(other), 0, days)
 }
 
 #[unsafe(no_mangle)]
@@ -81,7 +81,7 @@ pub extern "C" fn plaitgate_civil_date_seconds_until(
         month: other_month,
         day: other_day,
     };
-    give::span(date.seconds_until(other), seconds)
+    give::value(date.seconds_until(other), 0, seconds)
 }
 
 #[unsafe(no_mangle)]
@@ -103,5 +103,5 @@ pub extern "C" fn plaitgate_civil_date_nanos_until(
         month: other_month,
         day: other_day,
     };
-    give::span(date.nanos_until(other), nanos)
+    give::value(date.nanos_until(other), 0, nanos)
 }

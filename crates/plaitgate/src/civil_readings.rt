@@ -64,7 +64,7 @@ pub extern "C" fn plaitgate_builtin_civil_to_gps(
         second,
         nanos,
     };
-    give::gps_count(by_builtin::civil_to_gps(c), gps)
+    give::count(by_builtin::civil_to_gps(c), gps)
 }
 
 #[unsafe(no_mangle)]
@@ -126,5 +126,5 @@ pub extern "C" fn plaitgate_table_civil_to_gps(
         second,
         nanos,
     };
-    give::dated_count(by_image::civil_to_gps(c, image), gps, stale)
+    give::dated(by_image::civil_to_gps(c, image), 0, gps, stale)
 }

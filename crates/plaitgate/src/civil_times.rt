@@ -1,4 +1,4 @@
-// Civil dates and times of UTC counts, and the counts of any fields.
+// Civil dates and times of UTC counts, and the counts of any fields. C passes fields one by one.
 ghost use Rattle.std.specs.Prelude.{◌≡◌, cond, eqb, pos};
 ghost use Rattle.refusals.specs.Outcome.{Gives, answered};
 ghost use Rattle.civil.specs.Fields.{fields, fields_of, count_at};
@@ -85,7 +85,7 @@ pub extern "C" fn plaitgate_civil_to_utc_nanos(
         second,
         nanos,
     };
-    give::count(c.to_utc_nanos(), count)
+    give::value(c.to_utc_nanos(), 0, count)
 }
 
 #[unsafe(no_mangle)]
@@ -110,7 +110,7 @@ pub extern "C" fn plaitgate_civil_to_utc(
         second,
         nanos,
     };
-    give::utc_count(c.to_utc(), count)
+    give::count(c.to_utc(), count)
 }
 
 #[unsafe(no_mangle)]
@@ -135,10 +135,6 @@ pub extern "C" fn plaitgate_civil_is_whole_second(
         second,
         nanos,
     };
-    if c.is_whole_second() {
-        *yes = 1;
-    } else {
-        *yes = 0;
-    }
+    *yes = give::byte(c.is_whole_second());
     0
 }

@@ -29,9 +29,7 @@ pub extern "C" fn plaitgate_duration_parts_new(
 pub extern "C" fn plaitgate_duration_from_nanos(nanos: i64, lasts: &mut i64) -> u32
     ensures { Gives (pos 0) (answered nanos) result lasts.new }
 {
-    let d = duration::from_nanos(nanos);
-    let n = d.0;
-    *lasts = n;
+    *lasts = duration::from_nanos(nanos).0;
     0
 }
 

@@ -7,6 +7,7 @@ ghost use Rattle.scales.specs.Scales.{weekday_of};
 use crate::give;
 use counts::units::DurationParts;
 use scales::glonass::Glonass;
+use scales::scale::Scale;
 
 #[unsafe(no_mangle)]
 pub extern "C" fn plaitgate_glonass_from_day_tod(
@@ -17,7 +18,7 @@ pub extern "C" fn plaitgate_glonass_from_day_tod(
 ) -> u32
     ensures { Gives 0 (of_units day_seconds day seconds nanos) result count.new }
 {
-    give::glonass_count(
+    give::count(
         Glonass::from_day_tod(day, DurationParts { seconds, nanos }),
         count,
     )
@@ -59,10 +60,6 @@ pub extern "C" fn plaitgate_glonass_day_of_week(count: u64, weekday: &mut u8) ->
 pub extern "C" fn plaitgate_glonass_is_weekend(count: u64, yes: &mut u8) -> u32
     ensures { Gives 0 (answered (cond (leb 6 (weekday_of count)) 1 0)) result yes.new }
 {
-    if Glonass(count).is_weekend() {
-        *yes = 1;
-    } else {
-        *yes = 0;
-    }
+    *yes = give::byte(Glonass(count).is_weekend());
     0
 }

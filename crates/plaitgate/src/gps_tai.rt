@@ -11,12 +11,12 @@ use scales::tai::Tai;
 pub extern "C" fn plaitgate_gps_to_tai(count: u64, tai: &mut u64) -> u32
     ensures { Gives 0 (up tai_minus_gps count) result tai.new }
 {
-    give::tai_count(Gps(count).to_tai(), tai)
+    give::count(Gps(count).to_tai(), tai)
 }
 
 #[unsafe(no_mangle)]
 pub extern "C" fn plaitgate_gps_from_tai(tai: u64, count: &mut u64) -> u32
     ensures { Gives 0 (down tai_minus_gps tai) result count.new }
 {
-    give::gps_count(Gps::from_tai(Tai(tai)), count)
+    give::count(Gps::from_tai(Tai(tai)), count)
 }

@@ -17,9 +17,7 @@ pub extern "C" fn plaitgate_read_leap_list(bytes: &[u8], image: &mut [u8], line:
         return Refusal::BadTable.number();
     }
     let read = published::read(bytes);
-    let answer = read.answer;
-    let table = read.table;
     *line = read.line as u64;
-    put_table(image, table);
-    give::taken(answer)
+    put_table(image, read.table);
+    give::taken(read.answer)
 }

@@ -46,7 +46,7 @@ pub extern "C" fn plaitgate_list_current_tai_minus_utc(entries: &[u8], offset: &
     ensures { Gives (pos 0) (of_listed entries.now (λ es. answered (current_offset es))) result
         offset.new }
 {
-    give::offset(images::list::current_tai_minus_utc(entries), offset)
+    give::value(images::list::current_tai_minus_utc(entries), 0, offset)
 }
 
 // A list has no expiry, so it is never stale.
@@ -61,8 +61,9 @@ pub extern "C" fn plaitgate_list_tai_minus_utc_at(
         (with_stale (of_listed entries.now (λ es. answered (offset_at es tai)), false)) result
         (dated_as offset.new stale.new) }
 {
-    give::dated_offset(
+    give::dated(
         images::list::tai_minus_utc_at(entries, Tai(tai)),
+        0,
         offset,
         stale,
     )

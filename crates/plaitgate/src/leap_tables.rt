@@ -37,13 +37,8 @@ pub extern "C" fn plaitgate_table_from_entries(entries: &[u8], image: &mut [u8])
     ensures { leaves result image.new ≡ image_built entries.now image.old }
 {
     let built = images::table::build(entries);
-    let answer = built.answer;
-    let table = built.table;
-    let written = images::table::write(table, image);
-    if let Err(why) = written {
-        return why.number();
-    }
-    give::taken(answer)
+    let written = images::table::write(built.table, image);
+    give::taken(written.and(built.answer))
 }
 
 #[unsafe(no_mangle)]
@@ -107,7 +102,7 @@ pub extern "C" fn plaitgate_table_current_tai_minus_utc(image: &[u8], offset: &m
     ensures { Gives (pos 0) (by_image image.now (λ es. answered (current_offset es))) result
         offset.new }
 {
-    give::offset(images::table::current_tai_minus_utc(image), offset)
+    give::value(images::table::current_tai_minus_utc(image), 0, offset)
 }
 
 // And whether the table is stale at that reading.
@@ -122,8 +117,9 @@ pub extern "C" fn plaitgate_table_tai_minus_utc_at(
         (with_stale (dated_by_image image.now (λ es. tai) (λ es. answered (offset_at es tai)))) result
         (dated_as offset.new stale.new) }
 {
-    give::dated_offset(
+    give::dated(
         images::table::tai_minus_utc_at(image, Tai(tai)),
+        0,
         offset,
         stale,
     )

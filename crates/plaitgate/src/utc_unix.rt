@@ -11,14 +11,14 @@ use scales::utc::Utc;
 pub extern "C" fn plaitgate_utc_from_unix_seconds(seconds: i64, count: &mut u64) -> u32
     ensures { Gives 0 (count_of ((seconds -ℤ pos unix_offset) *ℤ pos second)) result count.new }
 {
-    give::utc_count(Utc::from_unix_seconds(seconds), count)
+    give::count(Utc::from_unix_seconds(seconds), count)
 }
 
 #[unsafe(no_mangle)]
 pub extern "C" fn plaitgate_utc_from_unix_nanos(nanos: i64, count: &mut u64) -> u32
     ensures { Gives 0 (count_of (nanos -ℤ pos (unix_offset * second))) result count.new }
 {
-    give::utc_count(Utc::from_unix_nanos(nanos), count)
+    give::count(Utc::from_unix_nanos(nanos), count)
 }
 
 #[unsafe(no_mangle)]

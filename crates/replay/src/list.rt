@@ -1,12 +1,11 @@
 // The recorded list, read byte by byte: a line is a call's number, its inputs, the refusal's number and the results.
-use crate::reply::{Question, Reply};
+use crate::reply::{Number, Question, Reply};
 use crate::{ask, by_value};
 
 // The numbers of the line that is being read, and what came of the lines before it.
 #[derive(Clone, Copy)]
 pub struct Reading {
-    pub sizes: [u64; 16],
-    pub signs: [u64; 16],
+    pub numbers: [Number; 16],
     // the number that is being read
     pub at: usize,
     // a digit was read
@@ -24,8 +23,7 @@ pub struct Reading {
 impl Reading {
     pub fn new() -> Reading {
         Reading {
-            sizes: [0; 16],
-            signs: [0; 16],
+            numbers: [Number::ZERO; 16],
             at: 0,
             begun: false,
             comment: false,
@@ -59,12 +57,11 @@ impl Reading {
             return next;
         }
         if b == b'-' {
-            next.signs[at] = 1;
+            next.numbers[at].minus = true;
             return next;
         }
-        if b'0' <= b && b <= b'9' {
-            let size = next.sizes[at];
-            next.sizes[at] = with_digit(size, b - b'0');
+        if b.is_ascii_digit() {
+            next.numbers[at].size = with_digit(next.numbers[at].size, b - b'0');
             next.begun = true;
             return next;
         }
@@ -75,7 +72,7 @@ impl Reading {
     // The end of a line: the library is asked, and the next line begins.
     fn end(self) -> Reading {
         let mut next = Reading::new();
-        next.lines = one_more(self.lines);
+        next.lines = self.lines.saturating_add(1);
         next.agreed = self.agreed;
         next.differed = self.differed;
         next.first = self.first;
@@ -83,10 +80,10 @@ impl Reading {
             return next;
         }
         if self.agrees() {
-            next.agreed = one_more(self.agreed);
+            next.agreed = self.agreed.saturating_add(1);
             return next;
         }
-        next.differed = one_more(self.differed);
+        next.differed = self.differed.saturating_add(1);
         if self.first == 0 {
             next.first = next.lines;
         }
@@ -95,53 +92,43 @@ impl Reading {
 
     // Whether the library gives what the line says: the exported call, and the calls by value.
     fn agrees(self) -> bool {
-        let sizes = self.sizes;
-        let signs = self.signs;
-        let call = sizes[0];
+        let call = self.numbers[0].size;
         let at = place_of_refusal(call);
-        let q = question(sizes, signs);
-        if !same(by_value::ask(call, q), sizes, signs, at) {
+        let q = question(self.numbers);
+        if !same(by_value::ask(call, q), self.numbers, at) {
             return false;
         }
         // what has a number above 200 is not exported
-        200 < call || same(ask::ask(call, q), sizes, signs, at)
+        200 < call || same(ask::ask(call, q), self.numbers, at)
     }
 }
 
 // The inputs of a line.
-fn question(sizes: [u64; 16], signs: [u64; 16]) -> Question {
+fn question(numbers: [Number; 16]) -> Question {
     Question {
-        x: sizes[1],
-        x_minus: signs[1] == 1,
-        y: sizes[2],
-        y_minus: signs[2] == 1,
-        z: sizes[3],
-        z_minus: signs[3] == 1,
-        fourth: sizes[4],
-        fourth_minus: signs[4] == 1,
-        fifth: sizes[5],
-        fifth_minus: signs[5] == 1,
-        sixth: sizes[6],
-        seventh: sizes[7],
-        seventh_minus: signs[7] == 1,
+        x: numbers[1],
+        y: numbers[2],
+        z: numbers[3],
+        fourth: numbers[4],
+        fifth: numbers[5],
+        sixth: numbers[6],
+        seventh: numbers[7],
     }
 }
 
 // Whether a reply is what stands in a line from `at` on: the refusal's number, then the results, and after them
-// nothing.
-fn same(reply: Reply, sizes: [u64; 16], signs: [u64; 16], at: usize) -> bool {
+// nothing. Only the first result and the third have a sign that counts.
+fn same(reply: Reply, numbers: [Number; 16], at: usize) -> bool {
     if 8 < at {
         return false;
     }
-    let values = reply.values;
-    let minus = (signs[at + 1] == 1) == reply.minus;
-    let third_minus = (signs[at + 3] == 1) == reply.third_minus;
-    let number = sizes[at] == reply.number as u64;
-    let first = sizes[at + 1] == values[0] && sizes[at + 2] == values[1];
-    let second = sizes[at + 3] == values[2] && sizes[at + 4] == values[3];
-    let third = sizes[at + 5] == values[4] && sizes[at + 6] == values[5];
-    let last = sizes[at + 7] == values[6];
-    number && minus && third_minus && first && second && third && last
+    numbers[at].size == reply.number as u64
+        && numbers[at + 1].minus == reply.minus
+        && numbers[at + 3].minus == reply.third_minus
+        && numbers[at + 1..at + 8]
+            .iter()
+            .zip(&reply.values)
+            .all(|(told, value)| told.size == *value)
 }
 
 // Where a line has the refusal's number: after the call's number and its inputs.
@@ -157,30 +144,9 @@ fn place_of_refusal(call: u64) -> usize {
     }
 }
 
+// A number that does not fit 64 bits reads as 0, which no line has there.
 fn with_digit(size: u64, digit: u8) -> u64 {
-    let d = digit as u64;
-    if size <= 1_844_674_407_370_955_160 {
-        size * 10 + d % 10
-    } else {
-        size_of_the_largest(size, d)
-    }
-}
-
-// The last digit of a number of twenty digits; one that does not fit 64 bits reads as 0, which no line has there.
-fn size_of_the_largest(size: u64, d: u64) -> u64 {
-    if size != 1_844_674_407_370_955_161 {
-        return 0;
-    }
-    if 5 < d {
-        return 0;
-    }
-    size * 10 + d
-}
-
-fn one_more(n: u64) -> u64 {
-    if n < 18_446_744_073_709_551_615 {
-        n + 1
-    } else {
-        n
-    }
+    size.checked_mul(10)
+        .and_then(|tens| tens.checked_add(digit as u64))
+        .unwrap_or(0)
 }

@@ -7,7 +7,6 @@ mod by_value;
 mod list;
 mod numbered;
 mod reply;
-mod year;
 
 use list::Reading;
 use std::io;
@@ -20,13 +19,7 @@ fn cannot_read(rt: &HostRuntime) {
 
 // What came of the bytes of a block.
 fn take(reading: Reading, block: &[u8]) -> Reading {
-    let mut next = reading;
-    let mut i = 0;
-    while i < block.len() {
-        next = next.byte(block[i]);
-        i += 1;
-    }
-    next
+    block.iter().fold(reading, |next, b| next.byte(*b))
 }
 
 // A proved loop has to end, and nothing says that the input does: it counts its reads, up to a number that no run

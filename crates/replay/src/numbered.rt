@@ -25,9 +25,7 @@ pub fn put(number: u64, image: &mut [u8; 784]) {
         4 => put_least(image),
         5 => put_greatest(image),
         6 => put_too_long(image),
-        _ => {
-            images::table::write(full(), image);
-        }
+        _ => *image = image_of(full()),
     }
 }
 
@@ -70,40 +68,45 @@ fn put_too_long(image: &mut [u8; 784]) {
 // 64 entries, a day apart.
 fn full() -> LeapTable {
     let mut table = LeapTable::new();
-    let mut day: u64 = 0;
-    while day < 64 {
+    for day in 0..64u64 {
         let entry = LeapEntry::new(day * 86_400_000_000_000, (19 + day) as i32);
-        let grown = table.try_extend(entry);
-        table = grown.table;
-        day += 1;
+        table = table.try_extend(entry).table;
     }
     table
+}
+
+// The image of a table. What is 784 bytes long is never refused.
+pub fn image_of(table: LeapTable) -> [u8; 784] {
+    let mut image = [0u8; 784];
+    let _ = images::table::write(table, &mut image);
+    image
 }
 
 // The table of a number, by value.
 pub fn table(number: u64) -> LeapTable {
     let mut image = [0u8; 784];
     put(number, &mut image);
-    table_in(&image)
+    images::table::read(&image).table
 }
 
 // The same with an expiry; an invalid table as it is.
 pub fn expiring(number: u64, expiry: u64) -> LeapTable {
-    let set = table(number).with_expiry(Tai(expiry));
-    set.table
+    table(number).with_expiry(Tai(expiry)).table
 }
 
-fn table_in(image: &[u8; 784]) -> LeapTable {
-    let read = images::table::read(image);
-    read.table
+// How many entries a question has: none to three, or 65.
+pub fn entries(q: Question) -> usize
+    ensures { result ≤ 65 }
+{
+    if q.x.size < 4 { q.x.size as usize } else { 65 }
 }
 
 // The entries of a question as bytes: three, followed by zeros up to 65.
 pub fn list(q: Question) -> [u8; 780] {
     let mut list = [0u8; 780];
-    put_entry(&mut list, 0, q.y, q.offset());
-    put_entry(&mut list, 12, q.fourth, q.second_offset());
-    put_entry(&mut list, 24, q.sixth, q.third_offset());
+    put_entry(&mut list, 0, q.y.size, q.z.narrow());
+    put_entry(&mut list, 12, q.fourth.size, q.fifth.narrow());
+    put_entry(&mut list, 24, q.sixth.size, q.seventh.narrow());
     list
 }
 

@@ -1,25 +1,59 @@
 // A call's inputs, and what comes back.
-use crate::year;
-use counts::sums::Step;
-use counts::{Duration, sums};
+use civil::CivilDateTime;
 use refusals::Refusal;
 
-// The inputs of a call: of each number its size, and whether a minus sign stands before it.
+// A number of the list: its size, and whether a minus sign stands before it.
+#[derive(Clone, Copy)]
+pub struct Number {
+    pub size: u64,
+    pub minus: bool,
+}
+
+impl Number {
+    pub const ZERO: Number = Number {
+        size: 0,
+        minus: false,
+    };
+
+    fn value(self) -> i128 {
+        if self.minus {
+            -(self.size as i128)
+        } else {
+            self.size as i128
+        }
+    }
+
+    // One that 64 bits do not hold reads as 0.
+    pub fn signed(self) -> i64 {
+        i64::try_from(self.value()).unwrap_or(0)
+    }
+
+    // A year or an offset; one that 32 bits do not hold reads as 0.
+    pub fn narrow(self) -> i32 {
+        i32::try_from(self.value()).unwrap_or(0)
+    }
+
+    // For a call that takes 8 bits.
+    pub fn byte(self) -> u8 {
+        (self.size % 256) as u8
+    }
+
+    // For a call that takes 32 bits.
+    pub fn low(self) -> u32 {
+        (self.size % 4_294_967_296) as u32
+    }
+}
+
+// The inputs of a call.
 #[derive(Clone, Copy)]
 pub struct Question {
-    pub x: u64,
-    pub x_minus: bool,
-    pub y: u64,
-    pub y_minus: bool,
-    pub z: u64,
-    pub z_minus: bool,
-    pub fourth: u64,
-    pub fourth_minus: bool,
-    pub fifth: u64,
-    pub fifth_minus: bool,
-    pub sixth: u64,
-    pub seventh: u64,
-    pub seventh_minus: bool,
+    pub x: Number,
+    pub y: Number,
+    pub z: Number,
+    pub fourth: Number,
+    pub fifth: Number,
+    pub sixth: Number,
+    pub seventh: Number,
 }
 
 // The refusal's number, 0 for an answer, and up to seven results; the first and the third can have a minus sign.
@@ -29,63 +63,6 @@ pub struct Reply {
     pub values: [u64; 7],
     pub minus: bool,
     pub third_minus: bool,
-}
-
-impl Question {
-    // The first input as a signed number.
-    pub fn number(self) -> i64 {
-        signed(self.x, self.x_minus)
-    }
-
-    // The second input as a signed number.
-    pub fn duration(self) -> i64 {
-        signed(self.y, self.y_minus)
-    }
-
-    // The first input as a year.
-    pub fn year(self) -> i32 {
-        year::of(self.x, self.x_minus)
-    }
-
-    // The fourth input as a year.
-    pub fn other_year(self) -> i32 {
-        year::of(self.fourth, self.fourth_minus)
-    }
-
-    // The third input as an offset.
-    pub fn offset(self) -> i32 {
-        year::of(self.z, self.z_minus)
-    }
-
-    // The fifth input as an offset.
-    pub fn second_offset(self) -> i32 {
-        year::of(self.fifth, self.fifth_minus)
-    }
-
-    // The seventh input as an offset.
-    pub fn third_offset(self) -> i32 {
-        year::of(self.seventh, self.seventh_minus)
-    }
-}
-
-fn signed(size: u64, minus: bool) -> i64 {
-    let answer = if minus && 0 < size {
-        sums::backward(size - 1)
-    } else {
-        sums::forward(size)
-    };
-    match answer {
-        Ok(d) => d.0,
-        Err(_) => 0,
-    }
-}
-
-// A number's distance from 0.
-fn magnitude(n: i64) -> u64 {
-    match sums::by_sign(Duration(n)) {
-        Step::Forward(size) => size,
-        Step::Back(size) => size,
-    }
 }
 
 impl Reply {
@@ -120,30 +97,60 @@ impl Reply {
         Reply::signed_first(number, a, [0, 0, 0, 0, 0, 0])
     }
 
-    // Seconds that the call gives in 32 bits with a sign, as it does a year.
-    pub fn offset(number: u32, seconds: i32) -> Reply {
-        Reply::signed(number, year::wide(seconds))
-    }
-
     // A result with a sign, and six without.
     pub fn signed_first(number: u32, a: i64, rest: [u64; 6]) -> Reply {
-        let size = magnitude(a);
         Reply {
-            number,
-            values: [size, rest[0], rest[1], rest[2], rest[3], rest[4], rest[5]],
             minus: a < 0,
-            third_minus: false,
+            ..Reply::plain(
+                number,
+                [
+                    a.unsigned_abs(),
+                    rest[0],
+                    rest[1],
+                    rest[2],
+                    rest[3],
+                    rest[4],
+                    rest[5],
+                ],
+            )
         }
+    }
+
+    pub fn date(number: u32, year: i32, month: u8, day: u8) -> Reply {
+        Reply::signed_first(number, year as i64, [month as u64, day as u64, 0, 0, 0, 0])
+    }
+
+    pub fn civil(number: u32, c: CivilDateTime) -> Reply {
+        Reply::signed_first(
+            number,
+            c.year as i64,
+            [
+                c.month as u64,
+                c.day as u64,
+                c.hour as u64,
+                c.minute as u64,
+                c.second as u64,
+                c.nanos as u64,
+            ],
+        )
     }
 
     // A number, and an entry's threshold and offset.
     pub fn entry(number: u32, a: u64, tai_nanos: u64, tai_minus_utc: i32) -> Reply {
-        let size = magnitude(year::wide(tai_minus_utc));
         Reply {
-            number,
-            values: [a, tai_nanos, size, 0, 0, 0, 0],
-            minus: false,
             third_minus: tai_minus_utc < 0,
+            ..Reply::plain(
+                number,
+                [
+                    a,
+                    tai_nanos,
+                    tai_minus_utc.unsigned_abs() as u64,
+                    0,
+                    0,
+                    0,
+                    0,
+                ],
+            )
         }
     }
 
@@ -159,14 +166,4 @@ impl Reply {
     pub fn unknown() -> Reply {
         Reply::plain(4_294_967_295, [0, 0, 0, 0, 0, 0, 0])
     }
-}
-
-// A number of the list that the call takes in 8 bits.
-pub fn byte(n: u64) -> u8 {
-    (n % 256) as u8
-}
-
-// A number of the list that the call takes in 32 bits.
-pub fn low(n: u64) -> u32 {
-    (n % 4_294_967_296) as u32
 }

@@ -1,48 +1,47 @@
 -- Written by tools/write-scales from its template in tools/templates.
--- What BeiDou shares with every scale: each call leaves one refusal number, and one value through each reference that
--- it
+-- What BeiDou shares with every scale: each call leaves one refusal number, and one value through each reference that it
 -- writes, for each input.
 use Rattle.refusals.proofs.OneAnswer.{OneAnswerAndEnd, both}
 use Rattle.plaitgate.specs.Limits.{limits_at}
 use Rattle.plaitgate.proofs.Parts.{parts_of}
-use Rattle.plaitgate.proofs.beidou
+use Rattle.plaitgate.proofs.every_scale.BeidouHostCounts
 
-pub beidou_from_nanos : OneAnswerAndEnd beidou.plaitgate_beidou_from_nanos.Reads.Post (λ κ e. e.1.0.now)
+pub beidou_from_nanos : OneAnswerAndEnd BeidouHostCounts.scale_from_nanos.Reads.Post (λ κ e. e.1.0.now)
 beidou_from_nanos κ a x y e f p q = both p q
 
-pub beidou_as_nanos : OneAnswerAndEnd beidou.plaitgate_beidou_as_nanos.Reads.Post (λ κ e. e.1.0.now)
+pub beidou_as_nanos : OneAnswerAndEnd BeidouHostCounts.scale_as_nanos.Reads.Post (λ κ e. e.1.0.now)
 beidou_as_nanos κ a x y e f p q = both p q
 
-pub beidou_checked_from_seconds : OneAnswerAndEnd beidou.plaitgate_beidou_checked_from_seconds.Reads.Post
+pub beidou_checked_from_seconds : OneAnswerAndEnd BeidouHostCounts.scale_checked_from_seconds.Reads.Post
     (λ κ e. e.1.0.now)
 beidou_checked_from_seconds κ a x y e f p q = both p q
 
-pub beidou_as_seconds : OneAnswerAndEnd beidou.plaitgate_beidou_as_seconds.Reads.Post (λ κ e. e.1.0.now)
+pub beidou_as_seconds : OneAnswerAndEnd BeidouHostCounts.scale_as_seconds.Reads.Post (λ κ e. e.1.0.now)
 beidou_as_seconds κ a x y e f p q = both p q
 
-pub beidou_as_parts : OneAnswerAndEnd beidou.plaitgate_beidou_as_parts.Reads.Post
+pub beidou_as_parts : OneAnswerAndEnd BeidouHostCounts.scale_as_parts.Reads.Post
     (λ κ e. parts_of e.1.0.now e.1.1.0.now)
 beidou_as_parts κ a x y e f p q = both p q
 
-pub beidou_checked_add : OneAnswerAndEnd beidou.plaitgate_beidou_checked_add.Reads.Post (λ κ e. e.1.1.0.now)
+pub beidou_checked_add : OneAnswerAndEnd BeidouHostCounts.scale_checked_add.Reads.Post (λ κ e. e.1.1.0.now)
 beidou_checked_add κ a x y e f p q = both p q
 
-pub beidou_checked_sub_duration : OneAnswerAndEnd beidou.plaitgate_beidou_checked_sub_duration.Reads.Post
+pub beidou_checked_sub_duration : OneAnswerAndEnd BeidouHostCounts.scale_checked_sub_duration.Reads.Post
     (λ κ e. e.1.1.0.now)
 beidou_checked_sub_duration κ a x y e f p q = both p q
 
-pub beidou_saturating_add : OneAnswerAndEnd beidou.plaitgate_beidou_saturating_add.Reads.Post
+pub beidou_saturating_add : OneAnswerAndEnd BeidouHostCounts.scale_saturating_add.Reads.Post
     (λ κ e. e.1.1.0.now)
 beidou_saturating_add κ a x y e f p q = both p q
 
-pub beidou_saturating_sub_duration : OneAnswerAndEnd beidou.plaitgate_beidou_saturating_sub_duration.Reads.Post
+pub beidou_saturating_sub_duration : OneAnswerAndEnd BeidouHostCounts.scale_saturating_sub_duration.Reads.Post
     (λ κ e. e.1.1.0.now)
 beidou_saturating_sub_duration κ a x y e f p q = both p q
 
-pub beidou_checked_elapsed : OneAnswerAndEnd beidou.plaitgate_beidou_checked_elapsed.Reads.Post
+pub beidou_checked_elapsed : OneAnswerAndEnd BeidouHostCounts.scale_checked_elapsed.Reads.Post
     (λ κ e. e.1.1.0.now)
 beidou_checked_elapsed κ a x y e f p q = both p q
 
-pub beidou_limits : OneAnswerAndEnd beidou.plaitgate_beidou_limits.Reads.Post
+pub beidou_limits : OneAnswerAndEnd BeidouHostCounts.scale_limits.Reads.Post
     (λ κ e. limits_at e.0.now e.1.0.now e.1.1.0.now e.1.1.1.0.now)
 beidou_limits κ a x y e f p q = both p q

@@ -1,48 +1,47 @@
 -- Written by tools/write-scales from its template in tools/templates.
--- What UTC shares with every scale: each call leaves one refusal number, and one value through each reference that
--- it
+-- What UTC shares with every scale: each call leaves one refusal number, and one value through each reference that it
 -- writes, for each input.
 use Rattle.refusals.proofs.OneAnswer.{OneAnswerAndEnd, both}
 use Rattle.plaitgate.specs.Limits.{limits_at}
 use Rattle.plaitgate.proofs.Parts.{parts_of}
-use Rattle.plaitgate.proofs.utc
+use Rattle.plaitgate.proofs.every_scale.UtcHostCounts
 
-pub utc_from_nanos : OneAnswerAndEnd utc.plaitgate_utc_from_nanos.Reads.Post (λ κ e. e.1.0.now)
+pub utc_from_nanos : OneAnswerAndEnd UtcHostCounts.scale_from_nanos.Reads.Post (λ κ e. e.1.0.now)
 utc_from_nanos κ a x y e f p q = both p q
 
-pub utc_as_nanos : OneAnswerAndEnd utc.plaitgate_utc_as_nanos.Reads.Post (λ κ e. e.1.0.now)
+pub utc_as_nanos : OneAnswerAndEnd UtcHostCounts.scale_as_nanos.Reads.Post (λ κ e. e.1.0.now)
 utc_as_nanos κ a x y e f p q = both p q
 
-pub utc_checked_from_seconds : OneAnswerAndEnd utc.plaitgate_utc_checked_from_seconds.Reads.Post
+pub utc_checked_from_seconds : OneAnswerAndEnd UtcHostCounts.scale_checked_from_seconds.Reads.Post
     (λ κ e. e.1.0.now)
 utc_checked_from_seconds κ a x y e f p q = both p q
 
-pub utc_as_seconds : OneAnswerAndEnd utc.plaitgate_utc_as_seconds.Reads.Post (λ κ e. e.1.0.now)
+pub utc_as_seconds : OneAnswerAndEnd UtcHostCounts.scale_as_seconds.Reads.Post (λ κ e. e.1.0.now)
 utc_as_seconds κ a x y e f p q = both p q
 
-pub utc_as_parts : OneAnswerAndEnd utc.plaitgate_utc_as_parts.Reads.Post
+pub utc_as_parts : OneAnswerAndEnd UtcHostCounts.scale_as_parts.Reads.Post
     (λ κ e. parts_of e.1.0.now e.1.1.0.now)
 utc_as_parts κ a x y e f p q = both p q
 
-pub utc_checked_add : OneAnswerAndEnd utc.plaitgate_utc_checked_add.Reads.Post (λ κ e. e.1.1.0.now)
+pub utc_checked_add : OneAnswerAndEnd UtcHostCounts.scale_checked_add.Reads.Post (λ κ e. e.1.1.0.now)
 utc_checked_add κ a x y e f p q = both p q
 
-pub utc_checked_sub_duration : OneAnswerAndEnd utc.plaitgate_utc_checked_sub_duration.Reads.Post
+pub utc_checked_sub_duration : OneAnswerAndEnd UtcHostCounts.scale_checked_sub_duration.Reads.Post
     (λ κ e. e.1.1.0.now)
 utc_checked_sub_duration κ a x y e f p q = both p q
 
-pub utc_saturating_add : OneAnswerAndEnd utc.plaitgate_utc_saturating_add.Reads.Post
+pub utc_saturating_add : OneAnswerAndEnd UtcHostCounts.scale_saturating_add.Reads.Post
     (λ κ e. e.1.1.0.now)
 utc_saturating_add κ a x y e f p q = both p q
 
-pub utc_saturating_sub_duration : OneAnswerAndEnd utc.plaitgate_utc_saturating_sub_duration.Reads.Post
+pub utc_saturating_sub_duration : OneAnswerAndEnd UtcHostCounts.scale_saturating_sub_duration.Reads.Post
     (λ κ e. e.1.1.0.now)
 utc_saturating_sub_duration κ a x y e f p q = both p q
 
-pub utc_checked_elapsed : OneAnswerAndEnd utc.plaitgate_utc_checked_elapsed.Reads.Post
+pub utc_checked_elapsed : OneAnswerAndEnd UtcHostCounts.scale_checked_elapsed.Reads.Post
     (λ κ e. e.1.1.0.now)
 utc_checked_elapsed κ a x y e f p q = both p q
 
-pub utc_limits : OneAnswerAndEnd utc.plaitgate_utc_limits.Reads.Post
+pub utc_limits : OneAnswerAndEnd UtcHostCounts.scale_limits.Reads.Post
     (λ κ e. limits_at e.0.now e.1.0.now e.1.1.0.now e.1.1.1.0.now)
 utc_limits κ a x y e f p q = both p q

@@ -3,14 +3,16 @@ ghost use Rattle.std.specs.Prelude.{◌≡◌};
 ghost use Rattle.refusals.specs.Outcome.{Gives, changed, outcome_in};
 ghost use Rattle.plaitgate.specs.Tables.{alike_as, in_numbers};
 
+use crate::give::told;
 use alike::Alike;
+use refusals::Refusal;
 
 // 1 everywhere, 2 before the counts where one table extends the other, 3 before them where neither does, and 0 where
 // nothing is said.
-fn tell(told: Alike, how: &mut u8, gps: &mut u64, utc: &mut u64)
-    ensures { alike_as how.new gps.new utc.new ≡ in_numbers told }
+fn tell(alike: Alike, how: &mut u8, gps: &mut u64, utc: &mut u64)
+    ensures { alike_as how.new gps.new utc.new ≡ in_numbers alike }
 {
-    match told {
+    match alike {
         Alike::Irregular => {
             *how = 0;
             *gps = 0;
@@ -38,16 +40,7 @@ pub fn alike(answer: Result<Alike, Refusal>, how: &mut u8, gps: &mut u64, utc: &
     ensures { Gives (alike_as 0 0 0) (changed in_numbers (outcome_in answer)) result
         (alike_as how.new gps.new utc.new) }
 {
-    match answer {
-        Ok(told) => {
-            tell(told, how, gps, utc);
-            0
-        }
-        Err(r) => {
-            *how = 0;
-            *gps = 0;
-            *utc = 0;
-            r.number()
-        }
-    }
+    let (number, alike) = told(answer, Alike::Irregular);
+    tell(alike, how, gps, utc);
+    number
 }

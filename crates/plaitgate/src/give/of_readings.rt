@@ -5,9 +5,10 @@ ghost use Rattle.refusals.specs.Outcome.{Gives, outcome_in};
 ghost use Rattle.civil.specs.Fields.{fields};
 ghost use Rattle.plaitgate.specs.Tables.{dated_as, with_stale};
 
-use crate::give::{byte, civil};
+use crate::give::{civil, told, told_by_table};
 use civil::CivilDateTime;
-use readings::Dated;
+use refusals::Refusal;
+use tables::Dated;
 
 // The fields with a refusal.
 fn no_fields() -> CivilDateTime
@@ -38,16 +39,9 @@ pub fn reading(
         (fields year.new month.new day.new hour.new minute.new
         second.new nanos.new) }
 {
-    match answer {
-        Ok(c) => {
-            civil(c, year, month, day, hour, minute, second, nanos);
-            0
-        }
-        Err(r) => {
-            civil(no_fields(), year, month, day, hour, minute, second, nanos);
-            r.number()
-        }
-    }
+    let (number, c) = told(answer, no_fields());
+    civil(c, year, month, day, hour, minute, second, nanos);
+    number
 }
 
 // By a table: the last byte is 1 where the table is stale.
@@ -66,17 +60,8 @@ pub fn dated_reading(
         (dated_as (fields year.new month.new day.new hour.new
         minute.new second.new nanos.new) stale.new) }
 {
-    let answer = found.answer;
-    match answer {
-        Ok(c) => {
-            *stale = byte(found.stale);
-            civil(c, year, month, day, hour, minute, second, nanos);
-            0
-        }
-        Err(r) => {
-            *stale = 0;
-            civil(no_fields(), year, month, day, hour, minute, second, nanos);
-            r.number()
-        }
-    }
+    let (number, c, old) = told_by_table(found, no_fields());
+    civil(c, year, month, day, hour, minute, second, nanos);
+    *stale = old;
+    number
 }

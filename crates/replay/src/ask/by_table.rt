@@ -13,14 +13,14 @@ use plaitgate::leap_tables::{
 
 pub fn by_table(call: u64, q: Question) -> Reply {
     let mut image = [0u8; 784];
-    numbered::put(q.x, &mut image);
+    numbered::put(q.x.size, &mut image);
     by_image(call, q, &image)
 }
 
 // The same with the third input as the table's expiry.
 pub fn by_expiring(call: u64, q: Question) -> Reply {
     let mut image = [0u8; 784];
-    numbered::put_expiring(q.x, q.z, &mut image);
+    numbered::put_expiring(q.x.size, q.z.size, &mut image);
     by_image(call, q, &image)
 }
 
@@ -28,7 +28,7 @@ fn by_image(call: u64, q: Question, image: &[u8; 784]) -> Reply {
     if call < 7 {
         conversions(call, q, image)
     } else {
-        readers(call - 6, q.y, image)
+        readers(call - 6, q.y.size, image)
     }
 }
 
@@ -36,16 +36,16 @@ fn conversions(call: u64, q: Question, image: &[u8; 784]) -> Reply {
     let mut stale: u8 = 1;
     if call == 6 {
         let mut seconds: i64 = 1;
-        let number = plaitgate_table_gps_as_unix_seconds(q.y, image, &mut seconds, &mut stale);
+        let number = plaitgate_table_gps_as_unix_seconds(q.y.size, image, &mut seconds, &mut stale);
         return Reply::signed(number, seconds).dated(stale);
     }
     let mut a: u64 = 1;
     let number = match call {
-        1 => plaitgate_table_gps_to_utc(q.y, image, &mut a, &mut stale),
-        2 => plaitgate_table_utc_to_gps(q.y, image, &mut a, &mut stale),
-        3 => plaitgate_table_glonass_to_gps(q.y, image, &mut a, &mut stale),
-        4 => plaitgate_table_gps_to_glonass(q.y, image, &mut a, &mut stale),
-        _ => plaitgate_table_gps_from_unix_seconds(q.duration(), image, &mut a, &mut stale),
+        1 => plaitgate_table_gps_to_utc(q.y.size, image, &mut a, &mut stale),
+        2 => plaitgate_table_utc_to_gps(q.y.size, image, &mut a, &mut stale),
+        3 => plaitgate_table_glonass_to_gps(q.y.size, image, &mut a, &mut stale),
+        4 => plaitgate_table_gps_to_glonass(q.y.size, image, &mut a, &mut stale),
+        _ => plaitgate_table_gps_from_unix_seconds(q.y.signed(), image, &mut a, &mut stale),
     };
     Reply::one(number, a).dated(stale)
 }
@@ -56,7 +56,7 @@ fn readers(call: u64, y: u64, image: &[u8; 784]) -> Reply {
             let mut a: i32 = 1;
             let mut stale: u8 = 1;
             let number = plaitgate_table_tai_minus_utc_at(image, y, &mut a, &mut stale);
-            Reply::offset(number, a).dated(stale)
+            Reply::signed(number, a as i64).dated(stale)
         }
         2 => {
             let mut a: u64 = 1;
@@ -77,7 +77,7 @@ fn readers(call: u64, y: u64, image: &[u8; 784]) -> Reply {
         5 => {
             let mut a: i32 = 1;
             let number = plaitgate_table_current_tai_minus_utc(image, &mut a);
-            Reply::offset(number, a)
+            Reply::signed(number, a as i64)
         }
         _ => entry_at(y, image),
     }

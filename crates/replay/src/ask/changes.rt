@@ -15,32 +15,25 @@ pub fn changes(call: u64, q: Question) -> Reply {
 
 // Puts a table into an image, and makes the call over it. Gives the number of the refusal.
 pub fn change(call: u64, q: Question, image: &mut [u8; 784]) -> u32 {
-    numbered::put(q.x, image);
+    numbered::put(q.x.size, image);
     match call {
         1 => plaitgate_table_new(image),
         2 => plaitgate_table_from_builtin(image),
         3 => from_entries(q, image),
-        _ => plaitgate_table_try_extend(image, q.y, q.offset()),
+        _ => plaitgate_table_try_extend(image, q.y.size, q.z.narrow()),
     }
 }
 
 // The table of the question's entries: none to three, or 65.
 fn from_entries(q: Question, image: &mut [u8; 784]) -> u32 {
     let list = numbered::list(q);
-    let count = q.x;
-    match count {
-        0 => plaitgate_table_from_entries(&list[0..0], image),
-        1 => plaitgate_table_from_entries(&list[0..12], image),
-        2 => plaitgate_table_from_entries(&list[0..24], image),
-        3 => plaitgate_table_from_entries(&list[0..36], image),
-        _ => plaitgate_table_from_entries(&list, image),
-    }
+    plaitgate_table_from_entries(&list[..12 * numbered::entries(q)], image)
 }
 
 // The expiry of a table after it is set to the second input.
 pub fn expiry(q: Question) -> Reply {
     let mut image = [0u8; 784];
-    let set = numbered::put_expiring(q.x, q.y, &mut image);
+    let set = numbered::put_expiring(q.x.size, q.y.size, &mut image);
     expiry_in(set, &image)
 }
 

@@ -8,22 +8,12 @@ use plaitgate::leap_lists::{
 
 pub fn lists(call: u64, q: Question) -> Reply {
     let list = numbered::list(q);
-    let count = q.x;
-    match count {
-        0 => list_of(call, &list[0..0], q.sixth),
-        1 => list_of(call, &list[0..12], q.sixth),
-        2 => list_of(call, &list[0..24], q.sixth),
-        3 => list_of(call, &list[0..36], q.sixth),
-        _ => list_of(call, &list, q.sixth),
-    }
+    list_of(call, &list[..12 * numbered::entries(q)], q.sixth.size)
 }
 
 fn list_of(call: u64, list: &[u8], tai: u64) -> Reply {
     match call {
-        1 => {
-            let number = plaitgate_list_check(list);
-            Reply::one(number, 0)
-        }
+        1 => Reply::one(plaitgate_list_check(list), 0),
         2 => {
             let mut a: u64 = 1;
             let number = plaitgate_list_len(list, &mut a);
@@ -43,13 +33,13 @@ fn list_of(call: u64, list: &[u8], tai: u64) -> Reply {
         5 => {
             let mut a: i32 = 1;
             let number = plaitgate_list_current_tai_minus_utc(list, &mut a);
-            Reply::offset(number, a)
+            Reply::signed(number, a as i64)
         }
         _ => {
             let mut a: i32 = 1;
             let mut stale: u8 = 1;
             let number = plaitgate_list_tai_minus_utc_at(list, tai, &mut a, &mut stale);
-            Reply::offset(number, a).dated(stale)
+            Reply::signed(number, a as i64).dated(stale)
         }
     }
 }

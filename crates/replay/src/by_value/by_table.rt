@@ -9,30 +9,30 @@ use scales::utc::Utc;
 use tables::LeapTable;
 
 pub fn by_table(call: u64, q: Question) -> Reply {
-    by(call, q, numbered::table(q.x))
+    by(call, q, numbered::table(q.x.size))
 }
 
 // The same with the third input as the table's expiry.
 pub fn by_expiring(call: u64, q: Question) -> Reply {
-    by(call, q, numbered::expiring(q.x, q.z))
+    by(call, q, numbered::expiring(q.x.size, q.z.size))
 }
 
 fn by(call: u64, q: Question, table: LeapTable) -> Reply {
     if call < 7 {
         converted(call, q, table)
     } else {
-        read(call - 6, q.y, table)
+        read(call - 6, q.y.size, table)
     }
 }
 
 fn converted(call: u64, q: Question, table: LeapTable) -> Reply {
     match call {
-        1 => said::dated_utc(conversions::gps_to_utc(Gps(q.y), table)),
-        2 => said::dated_gps(conversions::utc_to_gps(Utc(q.y), table)),
-        3 => said::dated_gps(conversions::glonass_to_gps(Glonass(q.y), table)),
-        4 => said::dated_glonass(conversions::gps_to_glonass(Gps(q.y), table)),
-        5 => said::dated_gps(conversions::gps_from_unix_seconds(q.duration(), table)),
-        _ => said::dated_unix(conversions::gps_as_unix_seconds(Gps(q.y), table)),
+        1 => said::dated(conversions::gps_to_utc(Gps(q.y.size), table)),
+        2 => said::dated(conversions::utc_to_gps(Utc(q.y.size), table)),
+        3 => said::dated(conversions::glonass_to_gps(Glonass(q.y.size), table)),
+        4 => said::dated(conversions::gps_to_glonass(Gps(q.y.size), table)),
+        5 => said::dated(conversions::gps_from_unix_seconds(q.y.signed(), table)),
+        _ => said::dated_span(conversions::gps_as_unix_seconds(Gps(q.y.size), table)),
     }
 }
 

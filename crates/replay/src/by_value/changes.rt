@@ -3,43 +3,33 @@ use crate::by_value::said;
 use crate::reply::{Question, Reply};
 use crate::{ask, numbered};
 use lent::inner::copied::extended_in_place;
+use refusals::Refusal;
 use scales::tai::Tai;
 use tables::{LeapEntry, LeapTable, TableAnswer};
 
 pub fn changes(call: u64, q: Question) -> Reply {
     let made = change(call, q);
-    let table = made.table;
     let mut lent = [0u8; 784];
     ask::changes::change(call, q, &mut lent);
-    let mut own = [0u8; 784];
-    images::table::write(table, &mut own);
-    if !same_bytes(&lent, &own) {
+    if lent != numbered::image_of(made.table) {
         return Reply::unknown();
     }
-    let answer = made.answer;
-    afterwards(number_of(answer), table)
+    afterwards(number_of(made.answer), made.table)
 }
 
 // The expiry of a table after it is set to the second input.
 pub fn expiry(q: Question) -> Reply {
-    let set = numbered::table(q.x).with_expiry(Tai(q.y));
-    let answer = set.answer;
-    let table = set.table;
+    let set = numbered::table(q.x.size).with_expiry(Tai(q.y.size));
     let mut lent = [0u8; 784];
-    let number = numbered::put_expiring(q.x, q.y, &mut lent);
-    let mut own = [0u8; 784];
-    images::table::write(table, &mut own);
-    if number_of(answer) != number || !same_bytes(&lent, &own) {
+    let number = numbered::put_expiring(q.x.size, q.y.size, &mut lent);
+    if number_of(set.answer) != number || lent != numbered::image_of(set.table) {
         return Reply::unknown();
     }
-    said::update(table.expiry())
+    said::update(set.table.expiry())
 }
 
 fn number_of(answer: Result<(), Refusal>) -> u32 {
-    match answer {
-        Ok(()) => 0,
-        Err(why) => why.number(),
-    }
+    answer.map_or_else(|why| why.number(), |_| 0)
 }
 
 fn change(call: u64, q: Question) -> TableAnswer {
@@ -47,7 +37,10 @@ fn change(call: u64, q: Question) -> TableAnswer {
         1 => done(LeapTable::new()),
         2 => done(builtin::from_builtin()),
         3 => from_lists(q),
-        _ => extended(numbered::table(q.x), LeapEntry::new(q.y, q.offset())),
+        _ => extended(
+            numbered::table(q.x.size),
+            LeapEntry::new(q.y.size, q.z.narrow()),
+        ),
     }
 }
 
@@ -55,16 +48,9 @@ fn change(call: u64, q: Question) -> TableAnswer {
 // back.
 fn extended(table: LeapTable, entry: LeapEntry) -> TableAnswer {
     let grown = table.try_extend(entry);
-    let answer = grown.answer;
-    let by_value = grown.table;
-    let other = extended_in_place(table, entry);
-    let other_answer = other.answer;
-    let in_place = other.table;
-    let mut one = [0u8; 784];
-    images::table::write(by_value, &mut one);
-    let mut two = [0u8; 784];
-    images::table::write(in_place, &mut two);
-    if number_of(answer) == number_of(other_answer) && same_bytes(&one, &two) {
+    let in_place = extended_in_place(table, entry);
+    let same_images = numbered::image_of(grown.table) == numbered::image_of(in_place.table);
+    if same_images && number_of(grown.answer) == number_of(in_place.answer) {
         grown
     } else {
         done(LeapTable::new())
@@ -82,20 +68,14 @@ fn done(table: LeapTable) -> TableAnswer {
 fn from_lists(q: Question) -> TableAnswer {
     let mut thresholds = [0u64; 65];
     let mut offsets = [0i32; 65];
-    thresholds[0] = q.y;
-    thresholds[1] = q.fourth;
-    thresholds[2] = q.sixth;
-    offsets[0] = q.offset();
-    offsets[1] = q.second_offset();
-    offsets[2] = q.third_offset();
-    let count = q.x;
-    match count {
-        0 => LeapTable::from_lists(&thresholds[0..0], &offsets[0..0]),
-        1 => LeapTable::from_lists(&thresholds[0..1], &offsets[0..1]),
-        2 => LeapTable::from_lists(&thresholds[0..2], &offsets[0..2]),
-        3 => LeapTable::from_lists(&thresholds[0..3], &offsets[0..3]),
-        _ => LeapTable::from_lists(&thresholds, &offsets),
-    }
+    thresholds[0] = q.y.size;
+    thresholds[1] = q.fourth.size;
+    thresholds[2] = q.sixth.size;
+    offsets[0] = q.z.narrow();
+    offsets[1] = q.fifth.narrow();
+    offsets[2] = q.seventh.narrow();
+    let n = numbered::entries(q);
+    LeapTable::from_lists(&thresholds[..n], &offsets[..n])
 }
 
 // A refusal's number with the table's length and last entry.
@@ -111,22 +91,7 @@ fn last_of(number: u32, n: usize, table: LeapTable) -> Reply {
         return Reply::one(number, 0);
     }
     match table.entry_at(n - 1) {
-        Ok(Some(e)) => {
-            let offset = e.tai_minus_utc;
-            Reply::entry(number, n as u64, e.tai_nanos, offset)
-        }
-        Ok(None) => Reply::unknown(),
-        Err(_) => Reply::unknown(),
+        Ok(Some(e)) => Reply::entry(number, n as u64, e.tai_nanos, e.tai_minus_utc),
+        _ => Reply::unknown(),
     }
-}
-
-fn same_bytes<'a>(a: &'a [u8; 784], b: &'a [u8; 784]) -> bool {
-    let mut i: usize = 0;
-    while i < 784 {
-        if a[i] != b[i] {
-            return false;
-        }
-        i += 1;
-    }
-    true
 }

@@ -6,7 +6,7 @@ use scales::galileo::Galileo;
 
 pub fn across(call: u64, q: Question) -> Reply {
     match call {
-        1 => said::beidou(Galileo(q.x).to_beidou()),
-        _ => said::galileo(Beidou(q.x).to_galileo()),
+        1 => said::on_scale(Galileo(q.x.size).to_beidou()),
+        _ => said::on_scale(Beidou(q.x.size).to_galileo()),
     }
 }

@@ -6,7 +6,7 @@ use scales::tai::Tai;
 
 pub fn tai(call: u64, q: Question) -> Reply {
     match call {
-        1 => said::tai(Gps(q.x).to_tai()),
-        _ => said::gps(Gps::from_tai(Tai(q.x))),
+        1 => said::on_scale(Gps(q.x.size).to_tai()),
+        _ => said::on_scale(Gps::from_tai(Tai(q.x.size))),
     }
 }

@@ -8,25 +8,22 @@ use tables::LeapEntry;
 pub fn lists(call: u64, q: Question) -> Reply {
     let none = LeapEntry::new(0, 0);
     let mut entries = [none; 70];
-    entries[0] = LeapEntry::new(q.y, q.offset());
-    entries[1] = LeapEntry::new(q.fourth, q.second_offset());
-    entries[2] = LeapEntry::new(q.sixth, q.third_offset());
-    one_of(call, answers_of_first(entries, q.x as usize, Tai(q.sixth)))
+    entries[0] = LeapEntry::new(q.y.size, q.z.narrow());
+    entries[1] = LeapEntry::new(q.fourth.size, q.fifth.narrow());
+    entries[2] = LeapEntry::new(q.sixth.size, q.seventh.narrow());
+    one_of(
+        call,
+        answers_of_first(entries, q.x.size as usize, Tai(q.sixth.size)),
+    )
 }
 
 fn one_of(call: u64, answers: Answers) -> Reply {
-    let check = answers.check;
-    let length = answers.length;
-    let empty = answers.empty;
-    let update = answers.update;
-    let current = answers.current;
-    let in_force = answers.in_force;
     match call {
-        1 => said::taken(check),
-        2 => said::length(length),
-        3 => said::emptiness(empty),
-        4 => said::update(update),
-        5 => said::offset(current),
-        _ => said::dated_offset(in_force),
+        1 => said::taken(answers.check),
+        2 => said::length(answers.length),
+        3 => said::emptiness(answers.empty),
+        4 => said::update(answers.update),
+        5 => said::offset(answers.current),
+        _ => said::dated_offset(answers.in_force),
     }
 }

@@ -1,84 +1,37 @@
 // The answers of the calls by value, as the refusal's number and results.
-mod scale_counts;
-
 use crate::reply::Reply;
-use crate::year;
 use calendar::CivilDate;
 use civil::CivilDateTime;
-use conversions::{Dated, Dated, Dated, Dated};
-use counts::units::DurationParts;
 use counts::Duration;
-use tables::Dated;
+use counts::units::DurationParts;
+use refusals::Refusal;
+use scales::scale::Scale;
+use scales::tai::Tai;
+use tables::{Dated, LeapEntry};
 
-// every scale, by tools/write-scales
-pub use scale_counts::{beidou, galileo, glonass, gps, tai, utc};
-// end of every scale
+pub fn count_on<S: Scale>(t: S) -> Reply {
+    Reply::one(0, t.as_nanos())
+}
+
+pub fn on_scale<S: Scale>(answer: Result<S, Refusal>) -> Reply {
+    answer.map_or_else(Reply::refused, count_on)
+}
 
 pub fn count(answer: Result<u64, Refusal>) -> Reply {
-    match answer {
-        Ok(n) => Reply::one(0, n),
-        Err(why) => Reply::refused(why),
-    }
+    answer.map_or_else(Reply::refused, |n| Reply::one(0, n))
 }
 
-pub fn unix(answer: Result<i64, Refusal>) -> Reply {
-    match answer {
-        Ok(s) => Reply::signed(0, s),
-        Err(why) => Reply::refused(why),
-    }
+// Seconds, days or nanoseconds with a sign.
+pub fn span(answer: Result<i64, Refusal>) -> Reply {
+    answer.map_or_else(Reply::refused, |n| Reply::signed(0, n))
 }
 
-// An answer by a table, and whether the table is stale.
-pub fn dated(answer: Reply, stale: bool) -> Reply {
-    if stale {
-        answer.dated(1)
-    } else {
-        answer.dated(0)
-    }
-}
-
-pub fn dated_gps(found: Dated<Gps>) -> Reply {
-    let answer = found.answer;
-    dated(gps(answer), found.stale)
-}
-
-pub fn dated_utc(found: Dated<Utc>) -> Reply {
-    let answer = found.answer;
-    dated(utc(answer), found.stale)
-}
-
-pub fn dated_glonass(found: Dated<Glonass>) -> Reply {
-    let answer = found.answer;
-    dated(glonass(answer), found.stale)
-}
-
-pub fn dated_unix(found: Dated<i64>) -> Reply {
-    let answer = found.answer;
-    dated(unix(answer), found.stale)
-}
-
-pub fn dated_offset(found: Dated<i32>) -> Reply {
-    let answer = found.answer;
-    dated(offset(answer), found.stale)
+pub fn offset(answer: Result<i32, Refusal>) -> Reply {
+    span(answer.map(|seconds| seconds as i64))
 }
 
 pub fn duration(answer: Result<Duration, Refusal>) -> Reply {
-    match answer {
-        Ok(d) => lasting(d),
-        Err(why) => Reply::refused(why),
-    }
-}
-
-pub fn lasting(d: Duration) -> Reply {
-    let n = d.0;
-    Reply::signed(0, n)
-}
-
-pub fn span(answer: Result<i64, Refusal>) -> Reply {
-    match answer {
-        Ok(n) => Reply::signed(0, n),
-        Err(why) => Reply::refused(why),
-    }
+    span(answer.map(|d| d.0))
 }
 
 pub fn parts(p: DurationParts) -> Reply {
@@ -86,72 +39,36 @@ pub fn parts(p: DurationParts) -> Reply {
 }
 
 pub fn checked_parts(answer: Result<DurationParts, Refusal>) -> Reply {
-    match answer {
-        Ok(p) => parts(p),
-        Err(why) => Reply::refused(why),
-    }
+    answer.map_or_else(Reply::refused, parts)
 }
 
 pub fn yes(answer: bool) -> Reply {
-    if answer {
-        Reply::one(0, 1)
-    } else {
-        Reply::one(0, 0)
-    }
+    Reply::one(0, answer as u64)
 }
 
 pub fn date(d: CivilDate) -> Reply {
-    let year = d.year;
-    Reply::signed_first(
-        0,
-        year::wide(year),
-        [d.month as u64, d.day as u64, 0, 0, 0, 0],
-    )
+    Reply::date(0, d.year, d.month, d.day)
 }
 
 pub fn civil(c: CivilDateTime) -> Reply {
-    let year = c.year;
-    Reply::signed_first(
-        0,
-        year::wide(year),
-        [
-            c.month as u64,
-            c.day as u64,
-            c.hour as u64,
-            c.minute as u64,
-            c.second as u64,
-            c.nanos as u64,
-        ],
-    )
+    Reply::civil(0, c)
 }
 
 pub fn taken(answer: Result<(), Refusal>) -> Reply {
-    match answer {
-        Ok(()) => Reply::one(0, 0),
-        Err(why) => Reply::refused(why),
-    }
+    count(answer.map(|_| 0))
 }
 
 pub fn length(answer: Result<usize, Refusal>) -> Reply {
-    match answer {
-        Ok(n) => Reply::one(0, n as u64),
-        Err(why) => Reply::refused(why),
-    }
+    count(answer.map(|n| n as u64))
 }
 
 pub fn emptiness(answer: Result<bool, Refusal>) -> Reply {
-    match answer {
-        Ok(b) => yes(b),
-        Err(why) => Reply::refused(why),
-    }
+    answer.map_or_else(Reply::refused, yes)
 }
 
 pub fn entry(answer: Result<Option<LeapEntry>, Refusal>) -> Reply {
     match answer {
-        Ok(Some(e)) => {
-            let offset = e.tai_minus_utc;
-            Reply::entry(0, 1, e.tai_nanos, offset)
-        }
+        Ok(Some(e)) => Reply::entry(0, 1, e.tai_nanos, e.tai_minus_utc),
         Ok(None) => Reply::one(0, 0),
         Err(why) => Reply::refused(why),
     }
@@ -165,9 +82,15 @@ pub fn update(answer: Result<Option<Tai>, Refusal>) -> Reply {
     }
 }
 
-pub fn offset(answer: Result<i32, Refusal>) -> Reply {
-    match answer {
-        Ok(seconds) => Reply::offset(0, seconds),
-        Err(why) => Reply::refused(why),
-    }
+// By a table, and whether it is stale.
+pub fn dated<S: Scale>(found: Dated<S>) -> Reply {
+    on_scale(found.answer).dated(found.stale as u8)
+}
+
+pub fn dated_span(found: Dated<i64>) -> Reply {
+    span(found.answer).dated(found.stale as u8)
+}
+
+pub fn dated_offset(found: Dated<i32>) -> Reply {
+    offset(found.answer).dated(found.stale as u8)
 }
