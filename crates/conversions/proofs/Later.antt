@@ -1,68 +1,24 @@
 -- UTC to a scale that begins where the GPS count is d: by the GPS count that a store finds, or, before d, by the later
 -- one.
 use mathlib.Core.Path.{◌≡◌, refl, sym, ap, ◌∙◌}
-use mathlib.Core.Bool.{Bool, true, false, cond, ◌&&◌, false≢true}
+use mathlib.Core.Bool.{Bool, true, false, cond}
 use mathlib.Core.List.{List}
-use Prim.Native.Nat.{ℕ, ◌+◌, ◌^◌, ◌≤◌, ◌<◌}
-use native.Mathlib.Omega.{arith}
-use native.Mathlib.Decide.{dec_lt}
+use Prim.Native.Nat.{ℕ, ◌+◌, ◌≤◌, ◌<◌}
 use borrow.Author.Tests.{le-leb, lt-leb}
-use lib.IntN.{pos}
 use Rattle.refusals.specs.Outcome.{Outcome, answered, refused, value_in, then}
 use Rattle.refusals.proofs.Given.{no_refusal}
-use Rattle.refusals.proofs.Steps.{goes_on, stops, then-then}
-use Rattle.counts.specs.Exact.{count_of, up, down}
+use Rattle.refusals.proofs.Steps.{then-then}
+use Rattle.counts.specs.Exact.{up, down}
 use Rattle.counts.specs.Units.{second}
-use Rattle.counts.proofs.Fitting.{is_count, no_count_lem}
 use Rattle.scales.specs.Scales.{tai_minus_gps}
-use Rattle.tables.specs.Entries.{Entry, offset_at, regular}
-use Rattle.conversions.specs.Conversions.{utc_at_offset, gps_to_utc, last_reading, utc_to_gps}
+use Rattle.tables.specs.Entries.{Entry}
+use Rattle.conversions.specs.Conversions.{gps_to_utc, last_reading, utc_to_gps}
 use Rattle.conversions.specs.Shifted.{same_answer, later_of, shifted_to_utc, utc_to_shifted, shifted_reading}
 
 -- a refusal is no answer's same
 pub no_same : (o : Outcome ℕ) {k : ℕ} {p : Outcome ℕ} → p ≡ refused k → same_answer o p ≡ false
 no_same (answered m) e = rw e
 no_same (refused j) e = refl
-
--- a number that is no count is refused by the conversion too
-module _ (es : List Entry) where
-  counts_only : (k : ℕ) → then (count_of (pos k)) (gps_to_utc es) ≡ gps_to_utc es k
-  counts_only k = go (dec_lt k (2 ^ 64))
-    where
-      go : Dec (k < 2 ^ 64) → then (count_of (pos k)) (gps_to_utc es) ≡ gps_to_utc es k
-      go (yes h) = goes_on (gps_to_utc es) (is_count k h)
-      go (no h) =
-          let large : 2 ^ 64 ≤ k = omega (arith, h) in
-          stops (gps_to_utc es) (no_count_lem k large)
-          ∙ sym (stops (λ t. utc_at_offset (offset_at es t) k) (no_count_lem (k + tai_minus_gps) (omega arith)))
-
-  module _ (earlier : ℕ) {later utc later-utc : Outcome ℕ} (is : later ≡ count_of (pos (earlier + second)))
-      (converts : utc ≡ gps_to_utc es earlier) (later_converts : later-utc ≡ then later (gps_to_utc es)) where
-    by_counts : same_answer utc later-utc ≡ same_answer (gps_to_utc es earlier) (gps_to_utc es (earlier + second))
-    by_counts =
-        let of-later =
-        later_converts ∙ ap (λ (o : Outcome ℕ). then o (gps_to_utc es)) is ∙ counts_only (earlier + second) in
-        (λ i. same_answer (converts i) (of-later i))
-
-    pub not_shared : same_answer utc later-utc ≡ false → refused 1 ≡ later_of es earlier
-    not_shared f = sym (no_test (regular es) (answered (earlier + second)) (sym by_counts ∙ f))
-      where
-        no_test : (a : Bool) {b : Bool} (o : Outcome ℕ) → b ≡ false → cond (a && b) o (refused 1) ≡ refused 1
-        no_test true o n = rw n
-        no_test false o n = refl
-
-    pub shared : regular es ≡ true → same_answer utc later-utc ≡ true → later ≡ later_of es earlier
-    shared r t = go (dec_lt (earlier + second) (2 ^ 64))
-      where
-        go : Dec (earlier + second < 2 ^ 64) → later ≡ later_of es earlier
-        go (yes h) = is ∙ is_count (earlier + second) h ∙ sym (rw (r, sym by_counts ∙ t))
-        go (no h) =
-            let none = is ∙ no_count_lem (earlier + second) (omega (arith, h)) in
-            let differ : same_answer utc later-utc ≡ false = no_same utc (later_converts ∙ stops (gps_to_utc es) none) in
-            absurd (false≢true (sym differ ∙ t))
-
-  pub not_regular : (earlier : ℕ) → regular es ≡ false → refused 1 ≡ later_of es earlier
-  not_regular earlier f = rw f
 
 -- in a store that is valid or not, and then refuses with 8 first
 module _ (d : ℕ) (v : Bool) (es : List Entry) (utc : Outcome ℕ) where
