@@ -5,7 +5,8 @@ use mathlib.Core.Bool.{Bool, true, false, cond}
 use mathlib.Core.List.{List}
 use Prim.Native.Nat.{ℕ, ◌+◌, ◌^◌}
 use lib.Dec.{ltb}
-use Rattle.refusals.specs.Outcome.{Outcome, answered, refused, value_in, then}
+use lib.IntN.{ℤ}
+use Rattle.refusals.specs.Outcome.{Outcome, answered, refused, value_in, then, changed}
 use Rattle.counts.specs.Exact.{up}
 use Rattle.scales.specs.Scales.{tai_minus_gps}
 use Rattle.tables.specs.Entries.{Entry, lookup, offset_at}
@@ -14,7 +15,7 @@ use Rattle.tables.specs.declared.Lookup.{Lookup}
 use Rattle.tables.proofs.Checked.{told-answer}
 use Rattle.tables.proofs.Stale.{answer-kept, answer-dated}
 use Rattle.conversions.specs.Conversions.{utc_at_offset, gps_to_utc, second_reading, last_reading, utc_to_gps}
-use Rattle.conversions.specs.ByLookup.{first_for, last_for, then_dated}
+use Rattle.conversions.specs.ByLookup.{first_for, last_for, then_dated, changed_dated}
 
 -- what is refused is not stale, whatever the reading
 pub no_answer : {A : Type 0} (v : Bool) (k : ℕ) (p q : Bool)
@@ -83,6 +84,15 @@ module _ (s v : Bool) (o : Outcome ℕ) {x : Outcome ℕ × Bool} (is : x ≡ da
     where
       go : (v : Bool) (o : Outcome ℕ)
           → then_dated (dated s (cond v o (refused 8))) next ≡ dated s (cond v (then o next) (refused 8))
+      go true (answered a) = refl
+      go true (refused k) = refl
+      go false o = refl
+
+  pub changed-dated : (f : ℕ → ℤ) → changed_dated f x ≡ dated s (cond v (changed f o) (refused 8))
+  changed-dated f = ap (changed_dated f) is ∙ go v o
+    where
+      go : (v : Bool) (o : Outcome ℕ)
+          → changed_dated f (dated s (cond v o (refused 8))) ≡ dated s (cond v (changed f o) (refused 8))
       go true (answered a) = refl
       go true (refused k) = refl
       go false o = refl
