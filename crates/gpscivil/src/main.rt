@@ -2,92 +2,39 @@
 // inserted second is 23:59:60.
 #![tactic(auto)]
 
-ghost use Rattle.std.specs.Prelude.{◌≡◌, ◌≤◌, ◌<◌, IfSome, length, take};
+ghost use Rattle.std.specs.Prelude.{◌≡◌, ◌<◌, IfSome, length};
 ghost use Rattle.std.specs.Io.KnownBytes.{Appends};
 ghost use Rattle.texts.specs.Lines.{lines_of};
 ghost use Rattle.lines.specs.Lines.{answers};
-ghost use Rattle.lines.specs.Pieces.{AnswersBlock};
-ghost use Rattle.lines.specs.Places.{Within, Stands};
-ghost use Rattle.lines.specs.Streams.{IfEnded, AnswersOn};
+ghost use Rattle.lines.specs.Streams.{IfEnded};
 ghost use Rattle.line_answers.specs.Gpscivil.{answer_to};
+ghost use Rattle.line_answers.proofs.GpscivilInput.{answers_lines};
 
-use line_answers::LONGEST_ANSWER;
-use line_answers::gpscivil::answer_line;
-use lines::inner::find::{Answered, keep, whole_line};
-use lines::inner::streams::{Place, Progress, explain, read_on, write_out};
+use line_answers::gpscivil;
+use lines::inner::runs;
+use lines::inner::runs::Answering;
+use lines::inner::streams::{Progress, explain};
 use std::io::{Read, Write};
 use std::time::Clock;
-use texts::inner::next_end;
 
 // How many bytes are read, and written, at a time.
 const BUFFER_BYTES: usize = 65_536;
 
-// Answers the lines that end in a block, while there is room for one more answer, and keeps the line that has begun.
-fn answer_block(line: &mut [u8], used: usize, block: &[u8], out: &mut [u8]) -> Answered
-    requires line_len { length line.old ≡ 128 }
-    requires used_bound { used ≤ 128 }
-    ensures { AnswersBlock 31 answer_to (take used line.old) block.now out.old
-        line.new out.new result }
-{
-    let mut held = used;
-    let mut made: usize = 0;
-    let mut at: usize = 0;
-    let mut end = next_end(block, 0);
-    while end < block.len() {
-        if out.len() - made < LONGEST_ANSWER {
-            return Answered {
-                used: held,
-                taken: at,
-                made: made,
-            };
-        }
-        let text = whole_line(line, held, block, at, end);
-        made += answer_line(text, &mut out[made..]);
-        held = 0;
-        at = end + 1;
-        end = next_end(block, at);
-    }
-    Answered {
-        used: keep(line, held, block, at, end),
-        taken: end,
-        made: made,
-    }
-}
+// Turns GPS counts into civil readings.
+struct ToCivil;
 
-// Answers the bytes of the block that are to be taken, as many as there is room for, and writes the answers.
-fn answer_and_write<W: Write>(
-    clock: &impl Clock,
-    output: &mut W,
-    line: &mut [u8],
-    place: Place,
-    block: &[u8],
-    out: &mut [u8],
-) -> Progress
-    requires line_len { length line.old ≡ 128 }
-    requires within { Within (length block.now) place }
-    ensures bound { Stands (length block.now) result }
-    ensures answers { AnswersOn answer_to place line.old block.now line.new
-        (W.contents output.old) (W.contents output.new) result }
-{
-    let at = place.at;
-    let end = place.end;
-    let done = answer_block(line, place.used, &block[at..end], out);
-    let made = done.made;
-    if write_out(clock, output, &out[0..made]) {
-        Progress::At(Place {
-            used: done.used,
-            at: at + done.taken,
-            end: end,
-            over: place.over,
-        })
-    } else {
-        Progress::CannotWrite
+impl Answering for ToCivil {
+    ghost answer_to = { answer_to };
+
+    ghost answers_lines = { answers_lines };
+
+    fn answer_line(line: &[u8], out: &mut [u8]) -> usize {
+        gpscivil::answer_line(line, out)
     }
 }
 
 // Reads, answers and writes until the input ends, or a read or a write fails. Where it ends, what is written is the
-// answers to the lines of the input, wherever the blocks cut them. The u64::MAX budget exists only so that the loop
-// provably ends.
+// answers to the lines of the input, wherever the blocks cut them.
 fn run<R: Read, W: Write>(
     clock: &impl Clock,
     input: &mut R,
@@ -101,24 +48,7 @@ fn run<R: Read, W: Write>(
     ensures { IfEnded result (IfSome (R.remaining input.old) (λ all.
         Appends (W.contents output.old) (W.contents output.new) (answers answer_to (lines_of all)))) }
 {
-    let mut place = Place {
-        used: 0,
-        at: 0,
-        end: 0,
-        over: false,
-    };
-    for _ in 0..u64::MAX {
-        let read = read_on(clock, input, place, block);
-        let Progress::At(next) = read else {
-            return read;
-        };
-        let written = answer_and_write(clock, output, line, next, block, out);
-        let Progress::At(after) = written else {
-            return written;
-        };
-        place = after;
-    }
-    Progress::CannotRead
+    runs::run::<ToCivil, R, W>(clock, input, output, line, block, out)
 }
 
 fn main(rt: HostRuntime) {

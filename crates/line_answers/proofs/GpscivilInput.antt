@@ -10,6 +10,7 @@ use lib.ListN.{length}
 use Rattle.refusals.specs.Outcome.{refused}
 use Rattle.civil.specs.declared.CivilDateTime.{CivilDateTime}
 use Rattle.stamps.specs.Form.{written}
+use Rattle.lines.specs.Lines.{AnswersLines}
 use Rattle.lines.proofs.OutcomeLines as outcome
 use Rattle.lines.proofs.WholeInput as law
 use Rattle.line_answers.specs.Gpscivil.{reading_of_line, answer_to}
@@ -28,7 +29,7 @@ too_long l h = rw (lt-leb (length l) 20 (omega arith), and-false (ltb 0 (length 
 form_short : (c : CivilDateTime) → length (written c) ≤ 30
 form_short c = omega arith
 
-pub answers_lines : law.AnswersLines 31 answer_to
+pub answers_lines : AnswersLines 31 answer_to
 answers_lines = outcome.answers_lines written form_short reading_of_line too_long
 
 pub cut_anywhere : GpscivilCutAnywhere

@@ -5,5 +5,4 @@
 pub mod civilgps;
 pub mod gpscivil;
 
-// No answer is longer, the line end included: a date and time has 30 bytes.
-pub const LONGEST_ANSWER: usize = 31;
+pub const LONGEST_ANSWER: usize = lines::inner::runs::LONGEST_ANSWER;

@@ -18,7 +18,7 @@ use Rattle.texts.proofs.LineEnds.{ends_at}
 use Rattle.lines.specs.OutcomeLine.{Puts, PutsWithRoom}
 use Rattle.lines.specs.Pieces.{begun_after, written, Answers, AnswersBlock, line_up_to, Keeps}
 use Rattle.lines.proofs.Cutting.{begun_joins, written_joins, free_begun, free_writes}
-use Rattle.lines.proofs.WholeInput.{AnswersLines}
+use Rattle.lines.specs.Lines.{AnswersLines}
 
 -- of n bytes as many as there is room for are stored after those that are held
 pub stored : (line : List ℕ) (used : ℕ) (s : List ℕ) (n k : ℕ) → length line ≡ 128 → used ≤ 128 → n ≤ length s

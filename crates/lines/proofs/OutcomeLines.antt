@@ -8,7 +8,8 @@ use Rattle.refusals.specs.Outcome.{Outcome, answered, refused, changed}
 use Rattle.words.specs.Decimal.{decimal}
 use Rattle.words.proofs.WayBack.{decimal_length}
 use Rattle.lines.specs.OutcomeLine.{line_of}
-use Rattle.lines.proofs.WholeInput.{AnswersLines, alike}
+use Rattle.lines.specs.Lines.{AnswersLines}
+use Rattle.lines.proofs.WholeInput.{alike}
 
 module _ {A : Type 0} (text : A → List ℕ) (few : (a : A) → length (text a) ≤ 30) where
   line-short : (o : Outcome A) → length (line_of (changed text o)) ≤ 31

@@ -11,7 +11,7 @@ use Rattle.std.specs.Io.KnownBytes.{Appends}
 use Rattle.std.proofs.KnownBytes.{Appends-nil, Appends-trans}
 use Rattle.std.specs.declared.option.Option.{Option}
 use Rattle.texts.specs.Lines.{lines_of}
-use Rattle.lines.specs.Lines.{answers}
+use Rattle.lines.specs.Lines.{answers, AnswersLines}
 use Rattle.lines.specs.Pieces.{begun_after, written, AnswersBlock}
 use Rattle.lines.specs.Places.{Within}
 use Rattle.lines.specs.Streams.{IfKnown, to_take, taken_to, GoesOn, EndsLine, ReadsOn, AnswersTo, AnswersOn, IfEnded}
@@ -20,7 +20,7 @@ use Rattle.lines.specs.declared.inner.streams.Place.{Place}
 use Rattle.lines.specs.declared.inner.streams.Progress.{Progress}
 use Rattle.lines.specs.declared.inner.streams.Progress.TheVariants.{At, Ended, CannotRead, CannotWrite}
 use Rattle.lines.proofs.Cutting.{begun_joins, written_joins}
-use Rattle.lines.proofs.WholeInput.{AnswersLines, at_end, cut_anywhere}
+use Rattle.lines.proofs.WholeInput.{at_end, cut_anywhere}
 
 -- what bytes and the end after them write, and of two pieces the first
 abbrev pub whole : (List ℕ → List ℕ) → List ℕ → List ℕ → List ℕ

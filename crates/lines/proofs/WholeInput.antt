@@ -10,16 +10,11 @@ use lib.Dec.{eqb}
 use lib.ListN.{length, take}
 use lib.Seq.{take_all, length-take-le}
 use Rattle.texts.specs.Lines.{prepend_byte, lines_of}
-use Rattle.lines.specs.Lines.{answers}
+use Rattle.lines.specs.Lines.{answers, AnswersLines}
 use Rattle.lines.specs.Pieces.{begun_after, written}
 use Rattle.lines.proofs.Cutting.{begun_joins, written_joins, clipped}
 
 -- ---- the statement
--- what is supposed of an answer: how long the longest is, and that a line is answered as its first 128 bytes are
-pub record AnswersLines (longest : ℕ) (f : List ℕ → List ℕ) : Type 0 where
-  pub short : (l : List ℕ) → length (f l) ≤ longest
-  pub first_128 : (l : List ℕ) → f (take 128 l) ≡ f l
-
 -- an input, cut into blocks
 abbrev pub joined : List (List ℕ) → List ℕ
 joined [] = []

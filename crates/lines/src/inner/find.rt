@@ -1,6 +1,6 @@
 // Finds the lines of an input in its blocks. A line that stands whole in a block is answered from there. One that a
 // block cuts is completed in a line buffer of 128 bytes, of which the first `used` are its bytes. Of a longer line the
-// buffer keeps the first 128 bytes, and they have to decide the answer (`AnswersLines` in proofs/WholeInput.antt).
+// buffer keeps the first 128 bytes, and they have to decide the answer (`AnswersLines` in specs/Lines.antt).
 ghost use Rattle.std.specs.Prelude.{◌≡◌, ◌≤◌, min, length, take};
 ghost use Rattle.lines.specs.Pieces.{line_up_to, Keeps};
 

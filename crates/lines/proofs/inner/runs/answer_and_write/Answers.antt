@@ -1,6 +1,6 @@
 -- `answer_and_write`: what is written are the answers to what is taken.
 use Rattle.lines.proofs.Runs.{block_answered}
-use Rattle.civilgps.proofs.answer_and_write.Goals as goal
+use Rattle.lines.proofs.inner.runs.answer_and_write.Goals as goal
 
 pub returns-then-write_out-clause-answers : goal.returns-then-write_out-clause-answers
 returns-then-write_out-clause-answers g c =

@@ -3,11 +3,10 @@
 use Rattle.std.proofs.Common.{◌≡◌, length}
 use Rattle.lines.specs.Places.{Within}
 use Rattle.lines.proofs.Runs.{Going}
-use Rattle.line_answers.specs.Gpscivil.{answer_to}
-use Rattle.gpscivil.proofs.run.Given as goal
+use Rattle.lines.proofs.inner.runs.run.Given as goal
 
 abbrev pub invariant-loop : goal.invariant-loop
 invariant-loop g l =
     (length l.line ≡ length l.fn.line) × (length l.block ≡ length l.fn.block) × Within (length l.block) l.place
-    × Going answer_to (g.R.Read.remaining l.fn.input) (g.R.Read.remaining l.input) (g.W.Write.contents l.fn.output)
+    × Going g.A.Answering.answer_to (g.R.Read.remaining l.fn.input) (g.R.Read.remaining l.input) (g.W.Write.contents l.fn.output)
     (g.W.Write.contents l.output) l.line l.block l.place
