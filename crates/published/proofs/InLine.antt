@@ -13,8 +13,6 @@ use lib.ListN.{length, get_or, drop, drop_of_length-le, get_or-eq_default}
 use lib.Seq.{drop-cons, length-take-le}
 use Rattle.refusals.specs.Outcome.{refused}
 use Rattle.words.specs.Decimal.{is_digit, count_read}
-use Rattle.std.proofs.Common.{rules}
-use Rattle.std.specs.List.{ends_with}
 use Rattle.texts.specs.Ends.{until_end}
 use Rattle.texts.proofs.FirstLine.{until_within}
 use Rattle.published.specs.LeapSecondsList.{take_while, drop_while, begins, is_blank, ends_in_return}
@@ -103,13 +101,18 @@ field-line comment s =
     )
 
 -- ---- the last byte of a line
-pub return_ends : (l : List ℕ) → ends_with eqb l (13 ∷ []) ≡ ends_in_return l
+pub return_ends : (l : List ℕ) → 0 < length l → eqb (get_or l (length l - 1) 0) 13 ≡ ends_in_return l
 unfolding ends_in_return
-return_ends [] = refl
-return_ends (b ∷ []) = search rules
-return_ends (b ∷ c ∷ cs) =
+return_ends [] some = absurd (omega arith)
+return_ends (b ∷ []) some = refl
+return_ends (b ∷ c ∷ cs) some =
     let k : length (b ∷ c ∷ cs) - 1 ≡ suc (length (c ∷ cs) - 1) = omega arith in
-    rw (k, ne_eqb (length (c ∷ cs)) 0 (λ e. omega arith)) (return_ends (c ∷ cs))
+    rw (k, ne_eqb (length (c ∷ cs)) 0 (λ e. omega arith)) (return_ends (c ∷ cs) (omega arith))
+
+pub nothing_ends : (l : List ℕ) → length l ≡ 0 → false ≡ ends_in_return l
+unfolding ends_in_return
+nothing_ends [] none = refl
+nothing_ends (b ∷ l) none = absurd (omega arith)
 
 -- blanks end in no return
 no_return : (b : ℕ) → is_blank b ≡ true → eqb b 13 ≡ false

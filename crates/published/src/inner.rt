@@ -128,7 +128,11 @@ fn record_at(ntp: u64, offset: u64) -> LeapRecord
 fn ends_in_return(line: &[u8]) -> bool
     ensures { result ≡ ends_in_return line.now }
 {
-    line.ends_with(b"\r")
+    let n = line.len();
+    if n == 0 {
+        return false;
+    }
+    line[n - 1] == b'\r'
 }
 
 // A line that begins with `#@`.
