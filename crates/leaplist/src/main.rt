@@ -131,27 +131,13 @@ fn run_since(rt: &HostRuntime, old: &mut [u8], new: &mut [u8], out: &mut [u8]) {
 
 // Whether a word is `--since`.
 fn is_since(word: &[u8]) -> bool {
-    let since = b"--since";
-    if word.len() != 7 {
-        return false;
-    }
-    let mut i: usize = 0;
-    while i < 7 {
-        if word[i] != since[i] {
-            return false;
-        }
-        i += 1;
-    }
-    true
+    word == b"--since".as_slice()
 }
 
 // Whether the command line has a word of this number; word 0 is the program's own name.
 fn has_word(rt: &HostRuntime, word: usize) -> bool {
     let mut start = [0u8; 1];
-    match rt.arg(word, &mut start) {
-        Err(FillError::NotPresent) => false,
-        _ => true,
-    }
+    !matches!(rt.arg(word, &mut start), Err(FillError::NotPresent))
 }
 
 // Whether the words are `--since` and two names. A word that is too long is none.

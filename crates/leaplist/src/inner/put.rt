@@ -35,19 +35,14 @@ fn put_number_and(out: &mut [u8], at: usize, n: u64, mark: u8) -> usize
 fn size_of(offset: i32) -> u64
     ensures { result ≡ nat_abs offset }
 {
-    if offset < 0 {
-        !offset as u64 + 1
-    } else {
-        offset as u64
-    }
+    u64::from(offset.unsigned_abs())
 }
 
 // The UTC second, counted from 1972-01-01, at a TAI count by an offset; 0 where the offset is larger.
 fn utc_second(threshold: u64, offset: u64) -> u64
     ensures { result ≡ utc_second threshold offset }
 {
-    let second = threshold / NANOS_PER_SECOND + UTC_EPOCH_TO_1980_S;
-    if second < offset { 0 } else { second - offset }
+    (threshold / NANOS_PER_SECOND + UTC_EPOCH_TO_1980_S).saturating_sub(offset)
 }
 
 // The line of an entry: at most 30 bytes for the date and time, 21 and 21 for the numbers, and a space.
