@@ -2,14 +2,13 @@
 use mathlib.Core.Path.{◌≡◌, refl, sym, ap, ◌∙◌}
 use mathlib.Core.Bool.{Bool, true, false, cond, ◌&&◌}
 use mathlib.Core.List.{List}
-use Prim.Native.Nat.{ℕ, ◌≤◌, ◌<◌}
-use native.Mathlib.Omega.{arith}
+use Prim.Native.Nat.{ℕ, ◌≤◌}
 use borrow.Author.Tests.{eqb-true, eq-eqb, le-leb}
 use lib.ListN.{length}
-use Rattle.refusals.specs.Outcome.{Outcome, answered, refused, then, changed}
-use Rattle.tables.specs.Entries.{Entry, valid}
+use Rattle.refusals.specs.Outcome.{Outcome, answered, refused}
+use Rattle.tables.specs.Entries.{valid}
 use Rattle.tables.specs.Slots.{entries_of, valid_table}
-use Rattle.tables.proofs.Checked.{Checked, checked, eight_first, eight_changed, told-valid}
+use Rattle.tables.proofs.Checked.{Checked, checked, told-valid}
 use Rattle.tables.proofs.Neighbours.{both}
 use Rattle.images.specs.Image.{sized, table_in, by_image}
 use Rattle.images.proofs.InSlots.{table_sized}
@@ -53,27 +52,7 @@ module _ (b : List ℕ) where
     pub refuses : {v : Bool} → v ≡ holds → v ≡ false → refused 8 ≡ by_image b (λ es. o)
     refuses e t = sym (one_test ∙ rw (sym e ∙ t))
 
-  -- 8 stays first where a step follows
-  module _ {A B : Type 0} (answer : List Entry → Outcome A) where
-    pub by_image-then : (next : A → Outcome B) → then (by_image b answer) next ≡ by_image b (λ es. then (answer es) next)
-    by_image-then next =
-        let o = answer (entries_of (table_in b)) in
-        ap (λ (x : Outcome A). then x next) (one_test o) ∙ eight_first next holds o ∙ sym (one_test (then o next))
-
-    pub by_image-changed : (f : A → B) → changed f (by_image b answer) ≡ by_image b (λ es. changed f (answer es))
-    by_image-changed f =
-        let o = answer (entries_of (table_in b)) in
-        ap (changed f) (one_test o) ∙ eight_changed f holds o ∙ sym (one_test (changed f o))
-
-  -- a lookup that is refused tells that there is no valid table
-  pub told_none : {A : Type 0} (a : A) {k : ℕ} → refused k ≡ by_image b (λ es. answered a) → false ≡ holds
-  told_none a {k} e = by_test holds (e ∙ one_test (answered a))
-    where
-      by_test : (v : Bool) → refused k ≡ cond v (answered a) (refused 8) → false ≡ v
-      by_test true e = cc
-      by_test false e = refl
-
-  -- and one that answers, that there is one
+  -- a lookup that answers tells that there is a valid table
   pub told_held : {A : Type 0} (a : A) {x : A} → answered x ≡ by_image b (λ es. answered a) → Held
   told_held a e = held refl (told-valid a holds (e ∙ one_test (answered a)))
 
@@ -81,6 +60,3 @@ module _ (b : List ℕ) where
 module _ {b : List ℕ} (h : Held b) where
   pub answers : {A : Type 0} {x y : A} → x ≡ y → answered x ≡ by_image b (λ es. answered y)
   answers {x} {y} e = ap answered e ∙ sym (one_test b (answered y) ∙ rw h.passes)
-
-  pub slot-within : {n i : ℕ} → n ≡ (table_in b).len → i < n → (length b ≡ 784) × (i < 64)
-  slot-within e l = (h.size, omega (arith, h.table.few))

@@ -16,7 +16,7 @@ use Rattle.tables.proofs.Extensions.{Sized}
 use Rattle.words.specs.Words.{bytes_of}
 use Rattle.words.proofs.Bytes.{bytes_count}
 use Rattle.words.proofs.Stores.{joined, sets_apart}
-use Rattle.images.specs.Image.{bytes_of_all, sized, image_of, stored}
+use Rattle.images.specs.Image.{bytes_of_all, sized, image_of}
 use Rattle.images.proofs.Fields.{all_bytes_count, field-written, all_fields_written}
 
 abbrev pub table_of_parts : List ℕ → List ℤ → (len expiry : ℕ) → LeapTable
@@ -99,11 +99,3 @@ module _ {A : Type 0} (b : List ℕ) (x y : A) where
 
   pub not_of_size : (length b ≡ 784 → ⊥) → y ≡ cond (sized b) x y
   not_of_size h = rw (ne_eqb (length b) 784 h)
-
--- the answer decides what is stored
-module _ (b : List ℕ) (x : ℕ × LeapTable) where
-  pub refusal_stored : (k : ℕ) → x.0 ≡ k → (k ≡ 0 → ⊥) → (k, b) ≡ stored b x
-  refusal_stored k e n = rw (e, ne_eqb k 0 n)
-
-  pub table_stored : x.0 ≡ 0 → (0, image_of x.1) ≡ stored b x
-  table_stored e = rw e
