@@ -4,7 +4,7 @@ use Prim.Native.Nat.{ℕ}
 use Rattle.refusals.proofs.Tells.{changed_tells}
 use Rattle.tables.specs.declared.Dated.{Dated}
 use Rattle.scales.proofs.Tells.{gps_count_tells, utc_count_tells, glonass_count_tells, galileo_count_tells, beidou_count_tells}
-use Rattle.conversions.specs.Answers.{dated_on, dated_gps_in, dated_utc_in, dated_glonass_in, dated_galileo_in, dated_beidou_in}
+use Rattle.conversions.specs.Answers.{dated_on, dated_gps_in, dated_utc_in, dated_glonass_in}
 use Rattle.scales.specs.declared.gps.Gps.{Gps}
 use Rattle.scales.specs.declared.utc.Utc.{Utc}
 use Rattle.scales.specs.declared.glonass.Glonass.{Glonass}
@@ -25,8 +25,8 @@ dated_utc_tells = dated_on_tells (λ t. t.0) utc_count_tells
 pub dated_glonass_tells : (x y : Dated Glonass) → dated_glonass_in x ≡ dated_glonass_in y → x ≡ y
 dated_glonass_tells = dated_on_tells (λ t. t.0) glonass_count_tells
 
-pub dated_galileo_tells : (x y : Dated Galileo) → dated_galileo_in x ≡ dated_galileo_in y → x ≡ y
+pub dated_galileo_tells : (x y : Dated Galileo) → dated_on (λ t. t.0) x ≡ dated_on (λ t. t.0) y → x ≡ y
 dated_galileo_tells = dated_on_tells (λ t. t.0) galileo_count_tells
 
-pub dated_beidou_tells : (x y : Dated Beidou) → dated_beidou_in x ≡ dated_beidou_in y → x ≡ y
+pub dated_beidou_tells : (x y : Dated Beidou) → dated_on (λ t. t.0) x ≡ dated_on (λ t. t.0) y → x ≡ y
 dated_beidou_tells = dated_on_tells (λ t. t.0) beidou_count_tells

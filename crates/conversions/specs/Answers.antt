@@ -4,8 +4,6 @@ use Rattle.refusals.specs.Outcome.{Outcome, outcome_in, changed}
 use Rattle.scales.specs.declared.gps.Gps.{Gps}
 use Rattle.scales.specs.declared.utc.Utc.{Utc}
 use Rattle.scales.specs.declared.glonass.Glonass.{Glonass}
-use Rattle.scales.specs.declared.galileo.Galileo.{Galileo}
-use Rattle.scales.specs.declared.beidou.Beidou.{Beidou}
 use Rattle.tables.specs.declared.Dated.{Dated}
 
 -- on a scale, by its counts
@@ -20,9 +18,3 @@ dated_utc_in = dated_on (λ t. t.0)
 
 abbrev pub dated_glonass_in : Dated Glonass → Outcome ℕ × Bool
 dated_glonass_in = dated_on (λ t. t.0)
-
-abbrev pub dated_galileo_in : Dated Galileo → Outcome ℕ × Bool
-dated_galileo_in = dated_on (λ t. t.0)
-
-abbrev pub dated_beidou_in : Dated Beidou → Outcome ℕ × Bool
-dated_beidou_in = dated_on (λ t. t.0)

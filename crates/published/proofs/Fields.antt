@@ -11,7 +11,8 @@ use Rattle.refusals.specs.Outcome.{Outcome, answered, refused}
 use Rattle.words.specs.Decimal.{is_digit, count_read}
 use Rattle.texts.specs.Ends.{until_end, NoEndBetween}
 use Rattle.published.specs.LeapSecondsList.{take_while, drop_while, begins, is_blank, in31_bits, field_read}
-use Rattle.published.specs.Places.{first_line, Passed, in64_bits, opens, ends_field}
+use Rattle.published.specs.Places.{first_line, in64_bits, opens, ends_field}
+use Rattle.published.proofs.Parts.{Passed}
 use Rattle.published.proofs.InLine.{field-line}
 
 -- what a text begins with, by the byte at a place of it

@@ -14,8 +14,8 @@ use Rattle.texts.proofs.LineEnds.{passed}
 use Rattle.texts.proofs.FirstLine.{until_within}
 use Rattle.published.specs.LeapSecondsList.{passes, holds, malformed, take_while, drop_while, begins, is_blank, is_hash}
 use Rattle.published.specs.LeapSecondsList.{begins_expiry, ends_in_return, offset_read, line_with, record_at, line_read}
-use Rattle.published.specs.Places.{first_line, Passed, in64_bits}
-use Rattle.published.proofs.Parts.{first_here, stays_here}
+use Rattle.published.specs.Places.{first_line, in64_bits}
+use Rattle.published.proofs.Parts.{Passed, first_here, stays_here}
 use Rattle.published.proofs.InLine.{length_line, drop_line, take_line, begins-line, line_on, begins-byte, blanks-end}
 use Rattle.published.proofs.Digits.{from_zero}
 use Rattle.published.proofs.Fields.{begins-at, is_read}

@@ -13,9 +13,13 @@ use Rattle.std.specs.Prelude.{None, Some, Result, Ok, Err}
 use Rattle.std.specs.Result.{result_ok}
 use Rattle.refusals.specs.Outcome.{Outcome, answered, refused, outcome_in}
 use Rattle.refusals.specs.declared.Refusal.{Refusal}
-use Rattle.texts.specs.Ends.{until_end}
+use Rattle.texts.specs.Ends.{until_end, NoEndBetween}
 use Rattle.published.specs.LeapSecondsList.{take_while, drop_while, begins}
-use Rattle.published.specs.Places.{Passed, in64_bits}
+use Rattle.published.specs.Places.{in64_bits}
+
+-- the first i bytes pass a test, the next one does not, and they are in one line
+abbrev pub Passed : (ℕ → Bool) → List ℕ → ℕ → Type 0
+Passed test s i = (drop i s ≡ drop_while test s) × NoEndBetween s 0 i
 
 -- the text from a place on, as the code takes it
 pub is_rest : (s : List ℕ) (at : ℕ) → take (length s - at) (drop at s) ≡ drop at s

@@ -1,10 +1,10 @@
 -- What the parts of the reader find, and where. Only contracts of functions in `inner` cite it.
-use Rattle.std.specs.Prelude.{◌≡◌, Bool, ◌&&◌, ◌||◌, List, ℕ, ◌<◌, ◌^◌, eqb, take, drop, nat_abs, Option, None, Some}
+use Rattle.std.specs.Prelude.{◌≡◌, Bool, ◌&&◌, ◌||◌, List, ℕ, ◌<◌, ◌^◌, eqb, take, nat_abs, Option, None, Some}
 use Rattle.refusals.specs.Outcome.{Outcome, answered, refused}
-use Rattle.texts.specs.Ends.{until_end, NoEndBetween}
+use Rattle.texts.specs.Ends.{until_end}
 use Rattle.tables.specs.Answers.{taken_in}
 use Rattle.records.specs.Records.{event}
-use Rattle.published.specs.LeapSecondsList.{Line, passes, holds, expires, malformed, drop_while, is_hash}
+use Rattle.published.specs.LeapSecondsList.{Line, passes, holds, expires, malformed, is_hash}
 use Rattle.published.specs.LeapSecondsList.{Reading, reading}
 use Rattle.published.specs.declared.ListAnswer.{ListAnswer}
 use Rattle.published.specs.declared.inner.LineRead.{LineRead}
@@ -13,10 +13,6 @@ use Rattle.published.specs.declared.inner.LineRead.TheVariants as read
 -- the line at the start of a text
 abbrev pub first_line : List ℕ → List ℕ
 first_line s = take (until_end s) s
-
--- the first i bytes pass a test, the next one does not, and they are in one line
-abbrev pub Passed : (ℕ → Bool) → List ℕ → ℕ → Type 0
-Passed test s i = (drop i s ≡ drop_while test s) × NoEndBetween s 0 i
 
 -- a number that is read; 12 where there is none
 abbrev pub in64_bits : Outcome ℕ → Outcome ℕ

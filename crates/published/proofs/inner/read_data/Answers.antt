@@ -5,8 +5,8 @@ use Rattle.words.specs.Decimal.{is_digit}
 use Rattle.texts.specs.Ends.{until_end, NoEndBetween}
 use Rattle.texts.proofs.FirstLine.{until_within}
 use Rattle.published.specs.LeapSecondsList.{holds, ends_in_return}
-use Rattle.published.specs.Places.{Passed, line_found}
-use Rattle.published.proofs.Parts.{is_rest, passed_all}
+use Rattle.published.specs.Places.{line_found}
+use Rattle.published.proofs.Parts.{Passed, is_rest, passed_all}
 use Rattle.published.proofs.Fields.{both_in_line}
 use Rattle.published.proofs.LineKinds.{line_to, data_no_number, data_returns, data_no_offset, data_holds}
 use Rattle.published.proofs.inner.read_data.Goals as goal
