@@ -81,7 +81,8 @@ impl<'a> Image<'a> {
         Ok(self.told(n, place))
     }
 
-    // How many of the first n thresholds are at or below a TAI reading, by halves: 7 probes for 64 of them.
+    // How many of the first n thresholds are at or below a TAI reading, by halves: 7 probes for 64 of them. C hands them
+    // over as bytes, and std's search is over items.
     fn count_at_or_below(self, n: usize, tai: u64) -> usize
         requires n_bound { n ≤ 64 }
         requires rises { Rises (table_in self.bytes.now).thresholds n }
