@@ -1,5 +1,5 @@
 // Counts of nanoseconds and the durations between them: the arithmetic that all time scales share.
-// Exact results are wider than 64 bits, so each sum goes by the sign of what is added, and each step is tested first.
+// Exact results are wider than 64 bits, so each sum goes by the sign of what is added, and one that does not fit is refused.
 #![tactic(auto)]
 
 pub mod sums;

@@ -14,11 +14,15 @@ ghost use Rattle.published.specs.Places.{first_line, number_found, opens, ends_f
 use records::inner::LeapRecord;
 use texts::inner::{LINE_END, next_end};
 use words::digits::read_count;
+use words::inner::digits::field;
 
 // NTP seconds up to 1980-01-06, where TAI counts begin.
 const NTP_SECONDS_TO_1980: i128 = 2_524_953_600;
 
 const LARGEST_OFFSET: u64 = i32::MAX as u64;
+
+// Any number of up to 19 digits fits 64 bits.
+const SAFE_DIGITS: usize = 19;
 
 // A comment or a blank line, a line with a record, or one with the NTP seconds of the expiry.
 #[derive(Clone, Copy)]
@@ -56,6 +60,9 @@ fn read_number(s: &[u8]) -> Option<(u64, usize)>
     ensures ends { IfSome result (λ n. (n.1 ≡ prefix_len is_digit s.now) × (n.1 ≤ length s.now)) }
 {
     let end = digits(s);
+    if 0 < end && end <= SAFE_DIGITS {
+        return Some((field(s, 0, end), end));
+    }
     let number = read_count(&s[..end]).ok()?;
     Some((number, end))
 }

@@ -39,7 +39,7 @@ impl LeapEntry {
 // The expiry of a table that has none: the largest count.
 pub const NO_EXPIRY: u64 = LARGEST_COUNT;
 
-// Thresholds and offsets are two arrays since theorems of demands name them.
+// Thresholds and offsets are two arrays: callers make tables by hand, forged ones too, and `Slots64` of pushing speaks of such.
 // Up to 64 entries: those in the first `len` slots. From the TAI reading `expiry` on, the table is stale.
 #[derive(Clone, Copy)]
 pub struct LeapTable {

@@ -5,7 +5,7 @@ ghost use Rattle.texts.specs.Ends.{has_no_end, until_end, NoEndBetween};
 pub const LINE_END: u8 = 10;
 
 // Line ends are searched in windows of 16 bytes.
-// (b) With `position` alone, 13 million lines of 100 bytes are found in 0.74 s, not in 0.15 s.
+// With `position` alone, 13 million lines of 100 bytes are found in 0.74 s, not in 0.15 s.
 const WINDOW: usize = 16;
 
 // Whether no byte ends a line. Every byte is tested, so that there is no branch.
@@ -16,7 +16,7 @@ fn has_no_end(s: &[u8]) -> bool
 }
 
 // Skips whole windows from `at` on that have no line end.
-// (b) With `chunks_exact`, 30 million lines of 30 bytes are found in 0.45 s, not in 0.33 s.
+// With `chunks_exact`, 30 million lines of 30 bytes are found in 0.45 s, not in 0.33 s.
 fn skip_windows(s: &[u8], at: usize) -> usize
     requires { at ≤ length s.now }
     ensures { NoEndBetween s.now at result }

@@ -16,7 +16,7 @@ fn byte(bytes: &[u8], at: usize) -> u64
 }
 
 // The number in the 4 bytes from `at` on, low byte first. It has no loop, so that a compiler makes it one load.
-// (b) With `u32::from_le_bytes`, 100 million numbers of 4 and of 8 bytes are read in 0.57 s, not in 0.28 s.
+// With `u32::from_le_bytes`, 100 million numbers of 4 and of 8 bytes are read in 0.57 s, not in 0.28 s.
 pub fn number_in_4(bytes: &[u8], at: usize) -> u64
     requires { at + 4 ≤ length bytes.now }
     ensures is { result ≡ number_in (take 4 (drop at bytes.now)) }

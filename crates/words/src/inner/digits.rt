@@ -11,10 +11,10 @@ pub fn digit(b: u8) -> u64
     (b - b'0') as u64
 }
 
-// The value of `width` digits from `at` on.
+// The value of `width` digits from `at` on. Any 19 digits fit 64 bits.
 pub fn field(s: &[u8], at: usize, width: usize) -> u64
     requires width_in_bounds { at + width ≤ length s.now }
-    requires width_bound { width ≤ 9 }
+    requires width_bound { width ≤ 19 }
     requires s_value { all_digits (take width (drop at s.now)) ≡ true }
     ensures { result ≡ value_of (take width (drop at s.now)) }
 {
@@ -67,7 +67,7 @@ fn counted_places(n: u64) -> usize
 }
 
 // How many digits a count has. A count of nanoseconds that is past its first four months has 17 or more.
-// (b) With `checked_ilog10`, whose zeros in front are counted by hand, 50 million long counts are put in 1.27 s, not 0.12 s.
+// With `checked_ilog10` 50 million long counts are put in 1.27 s, not in 0.12 s.
 pub fn places(n: u64) -> usize
     ensures { (result ≡ places_up_to 20 n) × (result ≤ 20) }
 {
@@ -100,7 +100,7 @@ fn put_ones(out: &mut [u8], at: usize, width: usize, n: u64)
 }
 
 // The last `width` digits of a number: four by four from the end, and then those in front.
-// (d) With `rchunks_exact_mut(4)` the digits in front would be a second slice, and the fours a loop all the same.
+// With `rchunks_exact_mut(4)` the digits in front would be a second slice, and the fours a loop all the same.
 pub fn put_last(out: &mut [u8], at: usize, width: usize, n: u64)
     requires { at + width ≤ length out.old }
     ensures { out.new ≡ sets out.old at (in_digits width n) }
