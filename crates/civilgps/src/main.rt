@@ -12,7 +12,7 @@ ghost use Rattle.line_answers.proofs.CivilgpsInput.{answers_lines};
 use line_answers::civilgps;
 use lines::inner::runs;
 use lines::inner::runs::Answering;
-use lines::inner::streams::{Progress, explain};
+use lines::inner::streams::{Place, Stop, explain};
 use std::io::{Read, Write};
 use std::time::Clock;
 
@@ -41,7 +41,7 @@ fn run<R: Read, W: Write>(
     line: &mut [u8],
     block: &mut [u8],
     out: &mut [u8],
-) -> Progress
+) -> Result<Place, Stop>
     requires line_len { length line.old ≡ 128 }
     requires block_nonzero { 0 < length block.old }
     ensures { IfEnded result (IfSome (R.remaining input.old) (λ all.
@@ -54,7 +54,7 @@ fn main(rt: HostRuntime) {
     let mut line = [0u8; 128];
     let mut block = [0u8; BUFFER_BYTES];
     let mut out = [0u8; BUFFER_BYTES];
-    let progress = run(
+    let ended = run(
         &rt,
         &mut rt.stdin(),
         &mut rt.stdout(),
@@ -62,5 +62,7 @@ fn main(rt: HostRuntime) {
         &mut block,
         &mut out,
     );
-    explain(&mut rt.stderr(), b"civilgps", progress);
+    if let Err(stop) = ended {
+        explain(&mut rt.stderr(), b"civilgps", stop);
+    }
 }

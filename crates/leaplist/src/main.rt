@@ -5,17 +5,15 @@
 
 mod inner;
 
-ghost use Rattle.std.specs.Prelude.{◌<◌, ◌≤◌, IfSome, length};
+ghost use Rattle.std.specs.Prelude.{◌<◌, ◌≤◌, IfOk, IfSome, length};
 ghost use Rattle.std.specs.Io.KnownBytes.{Appends};
 ghost use Rattle.lines.specs.OutcomeLine.{PutsWithRoom};
-ghost use Rattle.lines.specs.Places.{Reads};
-ghost use Rattle.lines.specs.Streams.{IfEnded};
 ghost use Rattle.leaplist.specs.Report.{report};
 ghost use Rattle.leaplist.specs.Since.{since_line};
 
 use inner::put::{put_refusal, put_table};
 use inner::since::{put_refused_file, put_with_new};
-use lines::inner::streams::{Input, Progress, explain, read_whole, write_out};
+use lines::inner::streams::{Stop, explain, read_whole, write_out};
 use published::MOST_BYTES;
 use std::env::{Env, FillError};
 use std::fs::File;
@@ -71,20 +69,14 @@ fn run<R: Read, W: Write>(
     output: &mut W,
     block: &mut [u8],
     out: &mut [u8],
-) -> Progress
-    ensures { 65536 < length block.old → 4740 ≤ length out.old → IfEnded result
-        (IfSome (R.remaining input.old) (λ all.
+) -> Result<(), Stop>
+    ensures { 65536 < length block.old → 4740 ≤ length out.old → IfOk result
+        (λ _. IfSome (R.remaining input.old) (λ all.
         Appends (W.contents output.old) (W.contents output.new) (report all))) }
 {
-    let Input::Bytes(n) = read_whole(clock, input, block) else {
-        return Progress::CannotRead;
-    };
+    let n = read_whole(clock, input, block)?;
     let made = report(&block[0..n], out);
-    if write_out(clock, output, &out[0..made]) {
-        Progress::Ended
-    } else {
-        Progress::CannotWrite
-    }
+    write_out(clock, output, &out[0..made])
 }
 
 // Says on standard error why a run is over. What cannot be written is left out: there is no other place to say so.
@@ -96,36 +88,30 @@ fn say(rt: &HostRuntime, words: &[u8]) {
 const LONGEST_NAME: usize = 4_096;
 
 // Reads the file that a word of the command line names, in UTF-8.
-fn read_named(rt: &HostRuntime, word: usize, block: &mut [u8]) -> Input
-    ensures { Reads (length block.old) result }
+fn read_named(rt: &HostRuntime, word: usize, block: &mut [u8]) -> Option<usize>
+    ensures { IfSome result (λ n. n ≤ length block.old) }
 {
     let mut name = [0u8; LONGEST_NAME];
-    let Ok(n) = rt.arg(word, &mut name) else {
-        return Input::CannotRead;
-    };
-    let Ok(path) = str::from_utf8(&name[..n]) else {
-        return Input::CannotRead;
-    };
-    let Ok(mut file) = File::open(rt, path) else {
-        return Input::CannotRead;
-    };
-    read_whole(rt, &mut file, block)
+    let n = rt.arg(word, &mut name).ok()?;
+    let path = str::from_utf8(&name[..n]).ok()?;
+    let mut file = File::open(rt, path).ok()?;
+    read_whole(rt, &mut file, block).ok()
 }
 
 // Reads the files that the second and the third word name, and writes the line on them, or says on standard error which
 // one cannot be read.
 fn run_since(rt: &HostRuntime, old: &mut [u8], new: &mut [u8], out: &mut [u8]) {
-    let Input::Bytes(n) = read_named(rt, 2, old) else {
+    let Some(n) = read_named(rt, 2, old) else {
         say(rt, b"leaplist: cannot read OLD\n");
         return;
     };
-    let Input::Bytes(m) = read_named(rt, 3, new) else {
+    let Some(m) = read_named(rt, 3, new) else {
         say(rt, b"leaplist: cannot read NEW\n");
         return;
     };
     let made = since(&old[0..n], &new[0..m], out);
-    if !write_out(rt, &mut rt.stdout(), &out[0..made]) {
-        explain(&mut rt.stderr(), b"leaplist", Progress::CannotWrite);
+    if let Err(stop) = write_out(rt, &mut rt.stdout(), &out[0..made]) {
+        explain(&mut rt.stderr(), b"leaplist", stop);
     }
 }
 
@@ -160,8 +146,10 @@ fn main(rt: HostRuntime) {
     let mut block = [0u8; MOST_BYTES + 1];
     let mut out = [0u8; OUTPUT_BYTES];
     if !has_word(&rt, 1) {
-        let progress = run(&rt, &mut rt.stdin(), &mut rt.stdout(), &mut block, &mut out);
-        explain(&mut rt.stderr(), b"leaplist", progress);
+        let told = run(&rt, &mut rt.stdin(), &mut rt.stdout(), &mut block, &mut out);
+        if let Err(stop) = told {
+            explain(&mut rt.stderr(), b"leaplist", stop);
+        }
         return;
     }
     if !asks_since(&rt) {

@@ -1,6 +1,6 @@
 -- A run over the blocks of an input, by the contracts of its steps: what it has written when the input has ended is the
 -- answers to the lines of the input.
-use Rattle.std.proofs.Common.{◌≡◌, ℕ, ◌+◌, ◌-◌, ◌≤◌, ◌<◌, List, [], ◌∷◌, ◌++◌, None, Some, IfSome, length, take, drop, refl, sym, ap, subst, ◌∙◌, append_assoc, append-nil, inl, inr, arith}
+use Rattle.std.proofs.Common.{◌≡◌, ℕ, ◌+◌, ◌-◌, ◌≤◌, ◌<◌, List, [], ◌∷◌, ◌++◌, None, Some, Ok, Err, IfSome, length, take, drop, refl, sym, ap, subst, ◌∙◌, append_assoc, append-nil, inl, inr, arith}
 use native.Mathlib.Nat.{sub-zero}
 use lib.ListN.{length-take}
 use lib.Seq.{take_at, drop-drop, length-take-le, sets-eq}
@@ -14,11 +14,11 @@ use Rattle.texts.specs.Lines.{lines_of}
 use Rattle.lines.specs.Lines.{answers, AnswersLines}
 use Rattle.lines.specs.Pieces.{begun_after, written, AnswersBlock}
 use Rattle.lines.specs.Places.{Within}
-use Rattle.lines.specs.Streams.{IfKnown, to_take, taken_to, GoesOn, EndsLine, ReadsOn, AnswersTo, AnswersOn, IfEnded}
+use Rattle.lines.specs.Streams.{IfKnown, to_take, taken_to, GoesOn, EndsLine, ReadsOn, AnswersTo, IfEnded}
 use Rattle.lines.specs.declared.inner.find.Answered.{Answered}
 use Rattle.lines.specs.declared.inner.streams.Place.{Place}
-use Rattle.lines.specs.declared.inner.streams.Progress.{Progress}
-use Rattle.lines.specs.declared.inner.streams.Progress.TheVariants.{At, Ended, CannotRead, CannotWrite}
+use Rattle.lines.specs.declared.inner.streams.Stop.{Stop}
+use Rattle.lines.specs.declared.inner.streams.Stop.TheVariants.{Ended, CannotRead, CannotWrite}
 use Rattle.lines.proofs.Cutting.{begun_joins, written_joins}
 use Rattle.lines.proofs.WholeInput.{at_end, cut_anywhere}
 
@@ -137,7 +137,7 @@ module _ {longest : ℕ} {f : List ℕ → List ℕ} (are : AnswersLines longest
   -- a turn
   pub turn : (input input' input'' output output' output'' : Option (List ℕ)) (line line' block block' : List ℕ)
       (p q r : Place) → length line ≡ 128 → p.used ≤ 128 → Going f input input' output output' line block p
-      → IfKnown input' input'' (λ xs ys. ReadsOn p block block' xs ys (At q))
+      → IfKnown input' input'' (λ xs ys. ReadsOn p block block' xs ys (Ok q))
       → AnswersTo f q line block' line' r output' output'' → Going f input input'' output output'' line' block' r
   turn None input' input'' output output' output'' line line' block block' p q r long few going reads to = tt
   turn (Some all) None input'' output output' output'' line line' block block' p q r long few going reads to = absurd going
@@ -150,7 +150,7 @@ module _ {longest : ℕ} {f : List ℕ → List ℕ} (are : AnswersLines longest
   -- the end of the input
   pub ends : (input input' input'' output output' : Option (List ℕ)) (line block block' : List ℕ) (p : Place)
       → Going f input input' output output' line block p
-      → IfKnown input' input'' (λ xs ys. ReadsOn p block block' xs ys Ended)
+      → IfKnown input' input'' (λ xs ys. ReadsOn p block block' xs ys (Err Ended))
       → IfSome input (λ all. Appends output output' (answers f (lines_of all)))
   ends None input' input'' output output' line block block' p going reads = tt
   ends (Some all) None input'' output output' line block block' p going reads = absurd going
@@ -164,19 +164,10 @@ module _ {longest : ℕ} {f : List ℕ → List ℕ} (are : AnswersLines longest
       subst (Appends output output') (all_said ∙ lines) writes
 
   pub read_ends : (input input' input'' output output' : Option (List ℕ)) (line block block' : List ℕ) (p : Place)
-      (x : Progress) → Going f input input' output output' line block p
-      → IfKnown input' input'' (λ xs ys. ReadsOn p block block' xs ys x)
-      → IfEnded x (IfSome input (λ all. Appends output output' (answers f (lines_of all))))
-  read_ends input input' input'' output output' line block block' p (At q) going reads = tt
+      (s : Stop) → Going f input input' output output' line block p
+      → IfKnown input' input'' (λ xs ys. ReadsOn p block block' xs ys (Err s))
+      → IfEnded (Err s) (IfSome input (λ all. Appends output output' (answers f (lines_of all))))
   read_ends input input' input'' output output' line block block' p Ended going reads =
       ends input input' input'' output output' line block block' p going reads
   read_ends input input' input'' output output' line block block' p CannotRead going reads = tt
   read_ends input input' input'' output output' line block block' p CannotWrite going reads = tt
-
--- an answer does not end a run
-pub never_ends : (f : List ℕ → List ℕ) (p : Place) (line block line' : List ℕ) (old new : Option (List ℕ)) (P : Type 0)
-    (x : Progress) → AnswersOn f p line block line' old new x → IfEnded x P
-never_ends f p line block line' old new P (At q) h = tt
-never_ends f p line block line' old new P Ended h = absurd h
-never_ends f p line block line' old new P CannotRead h = tt
-never_ends f p line block line' old new P CannotWrite h = tt

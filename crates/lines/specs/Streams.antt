@@ -1,13 +1,11 @@
 -- What a read and a write do to the bytes that an input has left and an output holds, where those are known.
-use Rattle.std.specs.Prelude.{◌≡◌, ℕ, ◌-◌, ◌<◌, ◌≤◌, ◌⊎◌, List, [], ◌∷◌, ◌++◌, length, take, drop, None, Some, IsTrue, ⊤}
+use Rattle.std.specs.Prelude.{◌≡◌, ℕ, ◌-◌, ◌<◌, ◌≤◌, ◌⊎◌, List, [], ◌∷◌, ◌++◌, length, take, drop, None, Some, IsTrue, Result, Ok, Err, ⊤}
 use Rattle.std.specs.Io.KnownBytes.{Appends, Consumes, IsAtEnd}
 use Rattle.std.specs.declared.option.Option.{Option}
 use Rattle.lines.specs.Pieces.{begun_after, written}
 use Rattle.lines.specs.declared.inner.streams.Place.{Place}
-use Rattle.lines.specs.declared.inner.streams.Progress.{Progress}
-use Rattle.lines.specs.declared.inner.streams.Progress.TheVariants.{At, Ended, CannotRead, CannotWrite}
-use Rattle.lines.specs.declared.inner.streams.Input.{Input}
-use Rattle.lines.specs.declared.inner.streams.Input.TheVariants as input
+use Rattle.lines.specs.declared.inner.streams.Stop.{Stop}
+use Rattle.lines.specs.declared.inner.streams.Stop.TheVariants.{Ended, CannotRead, CannotWrite}
 
 -- what is said of known bytes, before and after
 abbrev pub IfKnown : Option (List ℕ) → Option (List ℕ) → (List ℕ → List ℕ → Type 0) → Type 0
@@ -30,23 +28,23 @@ EndsLine p block xs q block' ys =
     (0 < p.used) × (to_take p block ++ xs ≡ []) × IsTrue q.over × (to_take q block' ≡ 10 ∷ []) × (ys ≡ [])
 
 -- the input has xs left before a read from a place, and ys after it
-abbrev pub ReadsOn : Place → List ℕ → List ℕ → List ℕ → List ℕ → Progress → Type 0
-ReadsOn p block block' xs ys (At q) = (q.used ≡ p.used) × (GoesOn p block xs q block' ys ⊎ EndsLine p block xs q block' ys)
-ReadsOn p block block' xs ys Ended = (to_take p block ≡ []) × (IsTrue p.over ⊎ ((xs ≡ []) × (p.used ≡ 0)))
-ReadsOn p block block' xs ys CannotRead = Unit {0}
-ReadsOn p block block' xs ys CannotWrite = Unit {0}
+abbrev pub ReadsOn : Place → List ℕ → List ℕ → List ℕ → List ℕ → Result Place Stop → Type 0
+ReadsOn p block block' xs ys (Ok q) = (q.used ≡ p.used) × (GoesOn p block xs q block' ys ⊎ EndsLine p block xs q block' ys)
+ReadsOn p block block' xs ys (Err Ended) = (to_take p block ≡ []) × (IsTrue p.over ⊎ ((xs ≡ []) × (p.used ≡ 0)))
+ReadsOn p block block' xs ys (Err CannotRead) = Unit {0}
+ReadsOn p block block' xs ys (Err CannotWrite) = Unit {0}
 
 -- the first bytes of the block are the next ones of the input, and they are all where the block is not full
-abbrev pub ReadsWhole : Option (List ℕ) → Option (List ℕ) → List ℕ → Input → Type 0
-ReadsWhole old new block (input.Bytes k) = Consumes old new (take k block) × (k < length block → IsAtEnd new)
-ReadsWhole old new block input.CannotRead = Unit {0}
+abbrev pub ReadsWhole : Option (List ℕ) → Option (List ℕ) → List ℕ → Result ℕ Stop → Type 0
+ReadsWhole old new block (Ok k) = Consumes old new (take k block) × (k < length block → IsAtEnd new)
+ReadsWhole old new block (Err s) = Unit {0}
 
 -- ---- a program's run
-abbrev pub IfEnded : Progress → Type 0 → Type 0
-IfEnded (At q) says = Unit {0}
-IfEnded Ended says = says
-IfEnded CannotRead says = Unit {0}
-IfEnded CannotWrite says = Unit {0}
+abbrev pub IfEnded : Result Place Stop → Type 0 → Type 0
+IfEnded (Ok q) says = Unit {0}
+IfEnded (Err Ended) says = says
+IfEnded (Err CannotRead) says = Unit {0}
+IfEnded (Err CannotWrite) says = Unit {0}
 
 -- the bytes that are taken between two places of a block
 abbrev pub taken_to : Place → Place → List ℕ → List ℕ
@@ -64,9 +62,7 @@ pub record AnswersTo (f : List ℕ → List ℕ) (p : Place) (line block line' :
   pub writes : Appends old new (written f (take p.used line) (taken_to p q block))
 
 -- the bytes of a block are answered, up to where the run stands then, or an answer cannot be written
-abbrev pub AnswersOn : (List ℕ → List ℕ) → Place → List ℕ → List ℕ → List ℕ → Option (List ℕ) → Option (List ℕ) → Progress
-    → Type 0
-AnswersOn f p line block line' old new (At q) = AnswersTo f p line block line' q old new
-AnswersOn f p line block line' old new Ended = ⊥
-AnswersOn f p line block line' old new CannotRead = ⊥
-AnswersOn f p line block line' old new CannotWrite = Unit {0}
+abbrev pub AnswersOn : (List ℕ → List ℕ) → Place → List ℕ → List ℕ → List ℕ → Option (List ℕ) → Option (List ℕ)
+    → Result Place Stop → Type 0
+AnswersOn f p line block line' old new (Ok q) = AnswersTo f p line block line' q old new
+AnswersOn f p line block line' old new (Err s) = s ≡ CannotWrite

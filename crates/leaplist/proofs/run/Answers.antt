@@ -1,7 +1,7 @@
 -- `run` keeps to its buffers, and what it writes is the report on the input.
 use Rattle.std.proofs.Common.{take, arith}
 use native.Mathlib.Nat.{sub-zero}
-use Rattle.std.specs.Io.KnownBytes.{Appends}
+use Rattle.std.proofs.lemmas.Result.{MatchResult-weaker}
 use Rattle.leaplist.specs.Report.{report}
 use Rattle.leaplist.proofs.Lengths.{made_fits, made_is}
 use Rattle.leaplist.proofs.Reports.{report-short, report_read}
@@ -11,15 +11,15 @@ pub slice_bounds-write_out-end : goal.slice_bounds-write_out-end
 slice_bounds-write_out-end g c =
     omega (arith, made_fits 4740 _ c.args.out.now _ c.report-made.result (report-short _) c.report-made.ensures)
 
-pub returns-then-write_out : goal.returns-then-write_out
-returns-then-write_out g c long room =
+pub returns : goal.returns
+returns g c long room =
     let block = c.read_whole.new.block in
-    let n = c.in-Bytes.n in
-    let (first, end) = c.in-Bytes.ensures.bytes in
+    let n = c.in_ok-n.n in
+    let (first, end) = c.in_ok-n.ensures.bytes in
     let put = rw (sub-zero n) at c.report-made.ensures in
     let is = made_is 4740 (report (take n block)) c.args.out.now c.report-made.new.out c.report-made.result (report-short _) room put in
-    let wrote : Appends (g.W.Write.contents c.args.output.now) (g.W.Write.contents c.write_out.new.output) (report (take n block))
-    = rw is at (c.write_out.ensures c.if-write_out.true) in
-    report_read (g.R.Read.remaining c.args.input.now) (g.R.Read.remaining c.read_whole.new.input)
-    (g.W.Write.contents c.args.output.now) (g.W.Write.contents c.write_out.new.output) block n
-    (omega (arith, c.in-Bytes.ensures.bound, c.read_whole.auto.block)) (omega (arith, long, c.read_whole.auto.block)) first end wrote
+    MatchResult-weaker c.write_out.result c.write_out.ensures (λ u wrote.
+        report_read (g.R.Read.remaining c.args.input.now) (g.R.Read.remaining c.read_whole.new.input)
+        (g.W.Write.contents c.args.output.now) (g.W.Write.contents c.write_out.new.output) block n
+        (omega (arith, c.in_ok-n.ensures.bound, c.read_whole.auto.block)) (omega (arith, long, c.read_whole.auto.block)) first end
+        (rw is at wrote)) (λ s e. tt)

@@ -9,7 +9,7 @@ ghost use Rattle.lines.specs.Places.{Within, Stands};
 ghost use Rattle.lines.specs.Streams.{IfEnded, AnswersOn};
 
 use crate::inner::find::{Answered, keep, whole_line};
-use crate::inner::streams::{Place, Progress, read_on, write_out};
+use crate::inner::streams::{Place, Stop, read_on, write_out};
 use std::io::{Read, Write};
 use std::time::Clock;
 use texts::inner::next_end;
@@ -74,7 +74,7 @@ fn answer_and_write<A: Answering, W: Write>(
     place: Place,
     block: &[u8],
     out: &mut [u8],
-) -> Progress
+) -> Result<Place, Stop>
     requires line_len { length line.old ≡ 128 }
     requires within { Within (length block.now) place }
     ensures bound { Stands (length block.now) result }
@@ -85,16 +85,13 @@ fn answer_and_write<A: Answering, W: Write>(
     let end = place.end;
     let done = answer_block::<A>(line, place.used, &block[at..end], out);
     let made = done.made;
-    if write_out(clock, output, &out[0..made]) {
-        Progress::At(Place {
-            used: done.used,
-            at: at + done.taken,
-            end: end,
-            over: place.over,
-        })
-    } else {
-        Progress::CannotWrite
-    }
+    write_out(clock, output, &out[0..made])?;
+    Ok(Place {
+        used: done.used,
+        at: at + done.taken,
+        end: end,
+        over: place.over,
+    })
 }
 
 // Reads, answers and writes until the input ends, or a read or a write fails. Where it ends, what is written is the
@@ -107,7 +104,7 @@ pub fn run<A: Answering, R: Read, W: Write>(
     line: &mut [u8],
     block: &mut [u8],
     out: &mut [u8],
-) -> Progress
+) -> Result<Place, Stop>
     requires line_len { length line.old ≡ 128 }
     requires block_nonzero { 0 < length block.old }
     ensures { IfEnded result (IfSome (R.remaining input.old) (λ all.
@@ -120,15 +117,8 @@ pub fn run<A: Answering, R: Read, W: Write>(
         over: false,
     };
     for _ in 0..u64::MAX {
-        let read = read_on(clock, input, place, block);
-        let Progress::At(next) = read else {
-            return read;
-        };
-        let written = answer_and_write::<A, W>(clock, output, line, next, block, out);
-        let Progress::At(after) = written else {
-            return written;
-        };
-        place = after;
+        let next = read_on(clock, input, place, block)?;
+        place = answer_and_write::<A, W>(clock, output, line, next, block, out)?;
     }
-    Progress::CannotRead
+    Err(Stop::CannotRead)
 }

@@ -1,8 +1,9 @@
 // An input read in blocks or whole, and an output written. A program's loop over blocks is: `read_on`, answer,
 // `write_out`. At a reader and a writer whose bytes are known, the contracts say which bytes move. Of those that the
 // system reads and writes no contract says anything.
-ghost use Rattle.std.specs.Prelude.{◌≡◌, ◌<◌, length, IsTrue};
+ghost use Rattle.std.specs.Prelude.{◌≡◌, ◌<◌, length, MatchResult};
 ghost use Rattle.std.specs.Io.KnownBytes.{Appends};
+ghost use Rattle.lines.specs.declared.inner.streams.Stop.TheVariants.{CannotWrite};
 ghost use Rattle.lines.specs.Places.{Within, Stands, Reads};
 ghost use Rattle.lines.specs.Streams.{IfKnown, ReadsOn, ReadsWhole};
 
@@ -21,20 +22,12 @@ pub struct Place {
     pub over: bool,
 }
 
-// A run that goes on from a place, or why it is over.
-#[derive(Clone, Copy)]
-pub enum Progress {
-    At(Place),
+// Why a run is over.
+#[derive(Clone, Copy, Debug, PartialEq, Eq)]
+pub enum Stop {
     Ended,
     CannotRead,
     CannotWrite,
-}
-
-// How many bytes were read.
-#[derive(Clone, Copy)]
-pub enum Input {
-    Bytes(usize),
-    CannotRead,
 }
 
 // A millisecond, between two tries of a call that found nothing to do.
@@ -72,7 +65,7 @@ pub fn read_on<R: Read>(
     input: &mut R,
     place: Place,
     block: &mut [u8],
-) -> Progress
+) -> Result<Place, Stop>
     requires within { Within (length block.old) place }
     requires block_nonzero { 0 < length block.old }
     ensures bound { Stands (length block.old) result }
@@ -80,73 +73,78 @@ pub fn read_on<R: Read>(
         (λ xs ys. ReadsOn place block.old block.new xs ys result) }
 {
     if place.at < place.end {
-        return Progress::At(place);
+        return Ok(place);
     }
     if place.over {
-        return Progress::Ended;
+        return Err(Stop::Ended);
     }
     match input.read(block) {
         Ok(0) => {
             if place.used == 0 {
-                return Progress::Ended;
+                return Err(Stop::Ended);
             }
             block[0] = LINE_END;
-            Progress::At(at_start(place.used, 1, true))
+            Ok(at_start(place.used, 1, true))
         }
-        Ok(n) => Progress::At(at_start(place.used, n, false)),
+        Ok(n) => Ok(at_start(place.used, n, false)),
         Err(e) => {
             if is_tried_again(clock, &e) {
-                Progress::At(at_start(place.used, 0, false))
+                Ok(at_start(place.used, 0, false))
             } else {
-                Progress::CannotRead
+                Err(Stop::CannotRead)
             }
         }
     }
 }
 
 // Reads an input until it ends or the block is full. The u64::MAX budget exists only so that the loop provably ends.
-pub fn read_whole<R: Read>(clock: &impl Clock, input: &mut R, block: &mut [u8]) -> Input
+pub fn read_whole<R: Read>(
+    clock: &impl Clock,
+    input: &mut R,
+    block: &mut [u8],
+) -> Result<usize, Stop>
     ensures bound { Reads (length block.old) result }
     ensures bytes { ReadsWhole (R.remaining input.old) (R.remaining input.new) block.new result }
 {
     let mut at: usize = 0;
     for _ in 0..u64::MAX {
         if at == block.len() {
-            return Input::Bytes(at);
+            return Ok(at);
         }
         match input.read(&mut block[at..]) {
-            Ok(0) => return Input::Bytes(at),
+            Ok(0) => return Ok(at),
             Ok(n) => at += n,
             Err(e) => {
                 if !is_tried_again(clock, &e) {
-                    return Input::CannotRead;
+                    return Err(Stop::CannotRead);
                 }
             }
         }
     }
-    Input::CannotRead
+    Err(Stop::CannotRead)
 }
 
-// Writes bytes; whether all could be written. The u64::MAX budget exists only so that the loop provably ends.
-pub fn write_out<W: Write>(clock: &impl Clock, output: &mut W, bytes: &[u8]) -> bool
-    ensures { IsTrue result → Appends (W.contents output.old) (W.contents output.new) bytes.now }
+// Writes all bytes. The u64::MAX budget exists only so that the loop provably ends.
+pub fn write_out<W: Write>(clock: &impl Clock, output: &mut W, bytes: &[u8]) -> Result<(), Stop>
+    ensures { MatchResult result (λ _. Appends (W.contents output.old) (W.contents output.new) bytes.now)
+        (λ stop. stop ≡ CannotWrite) }
 {
     let mut at: usize = 0;
     for _ in 0..u64::MAX {
         if at == bytes.len() {
-            return true;
+            return Ok(());
         }
         match output.write(&bytes[at..]) {
-            Ok(0) => return false,
+            Ok(0) => return Err(Stop::CannotWrite),
             Ok(n) => at += n,
             Err(e) => {
                 if !is_tried_again(clock, &e) {
-                    return false;
+                    return Err(Stop::CannotWrite);
                 }
             }
         }
     }
-    false
+    Err(Stop::CannotWrite)
 }
 
 // Writes two texts, one after the other. What cannot be written is left out: there is no other place to say so.
@@ -156,11 +154,10 @@ fn write_error<W: Write>(errors: &mut W, program: &[u8], what: &[u8]) {
 }
 
 // Says on standard error why a run is over, where that is not the end of the input.
-pub fn explain<W: Write>(errors: &mut W, program: &[u8], progress: Progress) {
-    match progress {
-        Progress::CannotRead => write_error(errors, program, b": cannot read\n"),
-        Progress::CannotWrite => write_error(errors, program, b": cannot write\n"),
-        Progress::At(_) => {}
-        Progress::Ended => {}
+pub fn explain<W: Write>(errors: &mut W, program: &[u8], stop: Stop) {
+    match stop {
+        Stop::CannotRead => write_error(errors, program, b": cannot read\n"),
+        Stop::CannotWrite => write_error(errors, program, b": cannot write\n"),
+        Stop::Ended => {}
     }
 }
