@@ -44,7 +44,7 @@ impl LeapRecord {
 // What has been seen of the records so far.
 #[derive(Clone, Copy)]
 pub struct Progress {
-    // a record came; an Option of `last` would not say that one came where some are kept
+    // a record came
     pub some: bool,
     // how many are kept
     pub count: usize,
