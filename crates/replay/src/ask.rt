@@ -1,5 +1,6 @@
 // What the exported calls answer to a question of the recorded list. The list numbers the calls; its first lines name
-// them.
+// them. Here and below a number is matched: the calls differ in what they take and give, so a table of closures would wrap
+// each in one more function.
 
 mod by_builtin;
 mod by_table;
