@@ -11,7 +11,6 @@ pub mod galileo_to_utc
 pub mod utc_to_galileo
 pub mod beidou_to_utc
 pub mod utc_to_beidou
-
 use Rattle.std.specs.Prelude.{◌≡◌}
 
 module _ {Lifetimes : Type 0} {Arguments Dated End : Lifetimes → Type 0}

@@ -19,7 +19,7 @@ returns g c long room =
     let put = rw (sub-zero n) at c.report-made.ensures in
     let is = made_is 4740 (report (take n block)) c.args.out.now c.report-made.new.out c.report-made.result (report-short _) room put in
     MatchResult-weaker c.write_out.result c.write_out.ensures (λ u wrote.
-        report_read (g.R.Read.remaining c.args.input.now) (g.R.Read.remaining c.read_whole.new.input)
-        (g.W.Write.contents c.args.output.now) (g.W.Write.contents c.write_out.new.output) block n
-        (omega (arith, c.in_ok-n.ensures.bound, c.read_whole.auto.block)) (omega (arith, long, c.read_whole.auto.block)) first end
-        (rw is at wrote)) (λ s e. tt)
+    report_read (g.R.Read.remaining c.args.input.now) (g.R.Read.remaining c.read_whole.new.input)
+    (g.W.Write.contents c.args.output.now) (g.W.Write.contents c.write_out.new.output) block n
+    (omega (arith, c.in_ok-n.ensures.bound, c.read_whole.auto.block)) (omega (arith, long, c.read_whole.auto.block)) first end
+    (rw is at wrote)) (λ s e. tt)

@@ -27,4 +27,4 @@ pub returns-then-end-le-SAFE_DIGITS-clause-is : goal.returns-then-end-le-SAFE_DI
 returns-then-end-le-SAFE_DIGITS-clause-is c =
     ap answered c.field.ensures
     ∙ few_digits c.args.s.now c.digits-end.result c.digits-end.ensures.value c.digits-end.ensures.within c.if-end-gt0.true
-        c.if-end-le-SAFE_DIGITS.true
+    c.if-end-le-SAFE_DIGITS.true
