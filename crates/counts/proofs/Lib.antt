@@ -3,4 +3,5 @@ pub mod Signed
 pub mod BySign
 pub mod Fitting
 pub mod Tells
+pub mod NoneOf
 pub mod Calls
