@@ -7,7 +7,7 @@ ghost use Rattle.counts.specs.Units.{second, parts_of};
 ghost use Rattle.plaitgate.specs.Limits.{limits, limits_at};
 
 use crate::give;
-use counts::{Duration, units};
+use counts::Duration;
 use scales::beidou::Beidou;
 use scales::galileo::Galileo;
 use scales::glonass::Glonass;
@@ -101,7 +101,7 @@ pub trait HostCounts: Scale {
         *epoch = Self::EPOCH.as_nanos();
         *min = Self::MIN.as_nanos();
         *max = Self::MAX.as_nanos();
-        *nanos_per_year = units::NANOS_PER_YEAR;
+        *nanos_per_year = Self::NANOS_PER_YEAR;
         0
     }
 }

@@ -1,11 +1,13 @@
 // BeiDou time: nanoseconds since 2006-01-01 in UTC, with no leap seconds.
 ghost use Rattle.scales.specs.Scales.{gps_minus_beidou};
-ghost use Rattle.std.specs.Prelude.{◌-◌, ◌^◌};
+ghost use Rattle.std.specs.Prelude.{◌-◌, ◌*◌, ◌^◌};
 ghost use Rattle.std.proofs.Common.{rules};
+ghost use Rattle.counts.specs.Units.{second, day_seconds};
 
 use crate::behind_gps::BehindGps;
 use crate::scale::Scale;
 use crate::weeks::Weeks;
+use counts::units;
 use counts::units::{LARGEST_COUNT, NANOS_PER_SECOND};
 
 #[derive(Clone, Copy, Debug, PartialEq, Eq, PartialOrd, Ord, Hash)]
@@ -15,6 +17,8 @@ impl Scale for Beidou {
     ghost count = { λ t. t.0 };
 
     ghost ends = { Prim.search rules };
+
+    ghost year = { Prim.search rules };
 
     ghost tells = { Prim.search rules };
 
@@ -29,6 +33,10 @@ impl Scale for Beidou {
     ghost MAX = { record { 0 = 2 ^ 64 - 1 } };
 
     const MAX: Beidou = Beidou(LARGEST_COUNT);
+
+    ghost NANOS_PER_YEAR = { 365 * day_seconds * second };
+
+    const NANOS_PER_YEAR: u64 = units::NANOS_PER_YEAR;
 
     fn from_nanos(nanos: u64) -> Beidou {
         Beidou(nanos)

@@ -1,8 +1,10 @@
 // GLONASS time: nanoseconds since 1996-01-01 in Moscow, which is UTC and three hours.
-ghost use Rattle.std.specs.Prelude.{◌-◌, ◌^◌};
+ghost use Rattle.std.specs.Prelude.{◌-◌, ◌*◌, ◌^◌};
 ghost use Rattle.std.proofs.Common.{rules};
+ghost use Rattle.counts.specs.Units.{second, day_seconds};
 
 use crate::scale::Scale;
+use counts::units;
 use counts::units::LARGEST_COUNT;
 
 #[derive(Clone, Copy, Debug, PartialEq, Eq, PartialOrd, Ord, Hash)]
@@ -12,6 +14,8 @@ impl Scale for Glonass {
     ghost count = { λ t. t.0 };
 
     ghost ends = { Prim.search rules };
+
+    ghost year = { Prim.search rules };
 
     ghost tells = { Prim.search rules };
 
@@ -26,6 +30,10 @@ impl Scale for Glonass {
     ghost MAX = { record { 0 = 2 ^ 64 - 1 } };
 
     const MAX: Glonass = Glonass(LARGEST_COUNT);
+
+    ghost NANOS_PER_YEAR = { 365 * day_seconds * second };
+
+    const NANOS_PER_YEAR: u64 = units::NANOS_PER_YEAR;
 
     fn from_nanos(nanos: u64) -> Glonass {
         Glonass(nanos)

@@ -1,9 +1,11 @@
 // GPS time: nanoseconds since 1980-01-06, with no leap seconds.
-ghost use Rattle.std.specs.Prelude.{◌-◌, ◌^◌};
+ghost use Rattle.std.specs.Prelude.{◌-◌, ◌*◌, ◌^◌};
 ghost use Rattle.std.proofs.Common.{rules};
+ghost use Rattle.counts.specs.Units.{second, day_seconds};
 
 use crate::scale::Scale;
 use crate::weeks::Weeks;
+use counts::units;
 use counts::units::LARGEST_COUNT;
 
 #[derive(Clone, Copy, Debug, PartialEq, Eq, PartialOrd, Ord, Hash)]
@@ -13,6 +15,8 @@ impl Scale for Gps {
     ghost count = { λ t. t.0 };
 
     ghost ends = { Prim.search rules };
+
+    ghost year = { Prim.search rules };
 
     ghost tells = { Prim.search rules };
 
@@ -27,6 +31,10 @@ impl Scale for Gps {
     ghost MAX = { record { 0 = 2 ^ 64 - 1 } };
 
     const MAX: Gps = Gps(LARGEST_COUNT);
+
+    ghost NANOS_PER_YEAR = { 365 * day_seconds * second };
+
+    const NANOS_PER_YEAR: u64 = units::NANOS_PER_YEAR;
 
     fn from_nanos(nanos: u64) -> Gps {
         Gps(nanos)

@@ -2,7 +2,7 @@
 ghost use Rattle.std.specs.Prelude.{◌≡◌, ℕ, ◌-◌, ◌*◌, ◌/◌, ◌%◌, ◌^◌, pos, ◌+ℤ◌, ◌-ℤ◌};
 ghost use Rattle.refusals.specs.Outcome.{outcome_in, changed};
 ghost use Rattle.counts.specs.Exact.{count_of, duration_of, nearest_count};
-ghost use Rattle.counts.specs.Units.{second, parts_of};
+ghost use Rattle.counts.specs.Units.{second, day_seconds, parts_of};
 ghost use Rattle.counts.specs.Answers.{duration_in};
 
 use counts::units::DurationParts;
@@ -25,7 +25,9 @@ pub trait Scale: Copy {
 
     const MAX: Self;
 
-    const NANOS_PER_YEAR: u64 = units::NANOS_PER_YEAR;
+    ghost NANOS_PER_YEAR: { ℕ };
+
+    const NANOS_PER_YEAR: u64;
 
     fn from_nanos(nanos: u64) -> Self
         ensures { count result ≡ nanos };
@@ -94,6 +96,9 @@ pub trait Scale: Copy {
 
     // Counts begin at 0, the epoch, and end at the largest number of 64 bits.
     ghost ends: { (count EPOCH ≡ 0) × (count MIN ≡ 0) × (count MAX ≡ 2 ^ 64 - 1) };
+
+    // A year has 365 days.
+    ghost year: { NANOS_PER_YEAR ≡ 365 * day_seconds * second };
 
     // A count tells which value of the scale it is.
     ghost tells: { (x y : Self) → count x ≡ count y → x ≡ y };

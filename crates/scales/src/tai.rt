@@ -1,8 +1,10 @@
 // TAI as this core reads it: nanoseconds since 19 s before the GPS epoch, with no leap seconds.
-ghost use Rattle.std.specs.Prelude.{◌-◌, ◌^◌};
+ghost use Rattle.std.specs.Prelude.{◌-◌, ◌*◌, ◌^◌};
 ghost use Rattle.std.proofs.Common.{rules};
+ghost use Rattle.counts.specs.Units.{second, day_seconds};
 
 use crate::scale::Scale;
+use counts::units;
 use counts::units::LARGEST_COUNT;
 
 #[derive(Clone, Copy, Debug, PartialEq, Eq, PartialOrd, Ord, Hash)]
@@ -12,6 +14,8 @@ impl Scale for Tai {
     ghost count = { λ t. t.0 };
 
     ghost ends = { Prim.search rules };
+
+    ghost year = { Prim.search rules };
 
     ghost tells = { Prim.search rules };
 
@@ -26,6 +30,10 @@ impl Scale for Tai {
     ghost MAX = { record { 0 = 2 ^ 64 - 1 } };
 
     const MAX: Tai = Tai(LARGEST_COUNT);
+
+    ghost NANOS_PER_YEAR = { 365 * day_seconds * second };
+
+    const NANOS_PER_YEAR: u64 = units::NANOS_PER_YEAR;
 
     fn from_nanos(nanos: u64) -> Tai {
         Tai(nanos)
