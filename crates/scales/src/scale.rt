@@ -35,10 +35,17 @@ pub trait Scale: Copy {
     fn as_nanos(self) -> u64
         ensures { result ≡ count self };
 
+    // A plain answer as one of the scale.
+    fn of(plain: Result<u64, Refusal>) -> Result<Self, Refusal>
+        ensures { changed count (outcome_in result) ≡ outcome_in plain }
+    {
+        Ok(Self::from_nanos(plain?))
+    }
+
     fn checked_from_seconds(seconds: u64) -> Result<Self, Refusal>
         ensures { changed count (outcome_in result) ≡ count_of (pos (seconds * second)) }
     {
-        Ok(Self::from_nanos(units::from_seconds(seconds)?))
+        Self::of(units::from_seconds(seconds))
     }
 
     // Whole seconds.
@@ -64,13 +71,13 @@ pub trait Scale: Copy {
     fn checked_add(self, d: Duration) -> Result<Self, Refusal>
         ensures { changed count (outcome_in result) ≡ count_of (pos (count self) +ℤ d.0) }
     {
-        Ok(Self::from_nanos(sums::later(self.as_nanos(), d)?))
+        Self::of(sums::later(self.as_nanos(), d))
     }
 
     fn checked_sub_duration(self, d: Duration) -> Result<Self, Refusal>
         ensures { changed count (outcome_in result) ≡ count_of (pos (count self) -ℤ d.0) }
     {
-        Ok(Self::from_nanos(sums::earlier(self.as_nanos(), d)?))
+        Self::of(sums::earlier(self.as_nanos(), d))
     }
 
     // Stops at the first and the last count.

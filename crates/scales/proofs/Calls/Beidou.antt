@@ -5,6 +5,9 @@ use Rattle.counts.proofs.Tells.{duration_tells}
 use Rattle.scales.proofs.Tells.{beidou_tells, beidou_count_tells}
 use Rattle.scales.proofs.beidou.BeidouScale
 
+pub beidou_answer_of : OneAnswer BeidouScale.of.Reads.Post
+beidou_answer_of κ a x y e f p q = viewed beidou_tells x y p q
+
 pub beidou_from_nanos : OneAnswer BeidouScale.from_nanos.Reads.Post
 beidou_from_nanos κ a x y e f p q = viewed beidou_count_tells x y p q
 

@@ -5,6 +5,9 @@ use Rattle.counts.proofs.Tells.{duration_tells}
 use Rattle.scales.proofs.Tells.{galileo_tells, galileo_count_tells}
 use Rattle.scales.proofs.galileo.GalileoScale
 
+pub galileo_answer_of : OneAnswer GalileoScale.of.Reads.Post
+galileo_answer_of κ a x y e f p q = viewed galileo_tells x y p q
+
 pub galileo_from_nanos : OneAnswer GalileoScale.from_nanos.Reads.Post
 galileo_from_nanos κ a x y e f p q = viewed galileo_count_tells x y p q
 

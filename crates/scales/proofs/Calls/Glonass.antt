@@ -5,6 +5,9 @@ use Rattle.counts.proofs.Tells.{duration_tells}
 use Rattle.scales.proofs.Tells.{glonass_tells, glonass_count_tells}
 use Rattle.scales.proofs.glonass.GlonassScale
 
+pub glonass_answer_of : OneAnswer GlonassScale.of.Reads.Post
+glonass_answer_of κ a x y e f p q = viewed glonass_tells x y p q
+
 pub glonass_from_nanos : OneAnswer GlonassScale.from_nanos.Reads.Post
 glonass_from_nanos κ a x y e f p q = viewed glonass_count_tells x y p q
 

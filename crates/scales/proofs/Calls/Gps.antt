@@ -5,6 +5,9 @@ use Rattle.counts.proofs.Tells.{duration_tells}
 use Rattle.scales.proofs.Tells.{gps_tells, gps_count_tells}
 use Rattle.scales.proofs.gps.GpsScale
 
+pub gps_answer_of : OneAnswer GpsScale.of.Reads.Post
+gps_answer_of κ a x y e f p q = viewed gps_tells x y p q
+
 pub gps_from_nanos : OneAnswer GpsScale.from_nanos.Reads.Post
 gps_from_nanos κ a x y e f p q = viewed gps_count_tells x y p q
 

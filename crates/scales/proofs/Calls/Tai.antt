@@ -5,6 +5,9 @@ use Rattle.counts.proofs.Tells.{duration_tells}
 use Rattle.scales.proofs.Tells.{tai_tells, tai_count_tells}
 use Rattle.scales.proofs.tai.TaiScale
 
+pub tai_answer_of : OneAnswer TaiScale.of.Reads.Post
+tai_answer_of κ a x y e f p q = viewed tai_tells x y p q
+
 pub tai_from_nanos : OneAnswer TaiScale.from_nanos.Reads.Post
 tai_from_nanos κ a x y e f p q = viewed tai_count_tells x y p q
 

@@ -5,6 +5,9 @@ use Rattle.counts.proofs.Tells.{duration_tells}
 use Rattle.scales.proofs.Tells.{utc_tells, utc_count_tells}
 use Rattle.scales.proofs.utc.UtcScale
 
+pub utc_answer_of : OneAnswer UtcScale.of.Reads.Post
+utc_answer_of κ a x y e f p q = viewed utc_tells x y p q
+
 pub utc_from_nanos : OneAnswer UtcScale.from_nanos.Reads.Post
 utc_from_nanos κ a x y e f p q = viewed utc_count_tells x y p q
 
