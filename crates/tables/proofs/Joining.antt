@@ -3,21 +3,21 @@ use mathlib.Core.Path.{◌≡◌, refl, sym, ap, subst, ◌∙◌}
 use mathlib.Core.Bool.{true}
 use mathlib.Core.List.{List, [], ◌∷◌, ◌++◌}
 use mathlib.Core.Option.{Option, none, some}
-use Prim.Native.Nat.{ℕ, suc, ◌-◌, ◌≤◌, ◌<◌}
+use Prim.Native.Nat.{ℕ, suc, ◌-◌, ◌≤◌, ◌<◌, min}
 use native.Mathlib.Omega.{arith}
 use borrow.Author.Tests.{le-leb, lt-leb}
 use lib.ListN.{length, get_or, get_elem?}
 use lib.IntN.{ℤ, pos}
 use Rattle.tables.specs.Entries.{Entry, threshold, offset, entry, neighbours, follows, valid, last_or}
 use Rattle.tables.specs.Entries.{current_offset, last_update, step_refusal, join_refusal}
-use Rattle.tables.specs.Slots.{slot_at, slots}
+use Rattle.tables.specs.Slots.{paired, slot_at, slots}
 use Rattle.std.specs.Prelude.{Some, None, Ok, MatchOption}
 use Rattle.std.specs.Prelude as maybe
 use Rattle.refusals.specs.Outcome.{Outcome, answered}
 use Rattle.tables.specs.Answers.{entry_in, update_in}
 use Rattle.scales.specs.declared.tai.Tai.{Tai}
 use Rattle.tables.specs.declared.LeapEntry.{LeapEntry}
-use Rattle.tables.proofs.FirstSlots.{slots_length, slot_is, one_more, some_at}
+use Rattle.tables.proofs.FirstSlots.{paired_length, slots_length, slot_is, one_more, some_at, there, whole}
 use Rattle.tables.proofs.Neighbours.{both}
 
 last_is : (e d : Entry) (es : List Entry) → last_or e es ≡ get_or (e ∷ es) (length es) d
@@ -28,6 +28,10 @@ last_is e d (f ∷ fs) = last_is f d fs
 pub empty_takes : (e : Entry) → join_refusal [] e ≡ 0
 unfolding join_refusal
 empty_takes e = refl
+
+pub nothing_yet : (es : List Entry) (e : Entry) → length es ≡ 0 → join_refusal es e ≡ 0
+nothing_yet [] e h = empty_takes e
+nothing_yet (p ∷ ps) e h = absurd (omega (arith, h))
 
 pub none_current : current_offset [] ≡ pos 19
 unfolding current_offset
@@ -73,6 +77,15 @@ module _ (last : Entry) where
   update_is [] h l = absurd (omega arith)
   update_is (p ∷ []) h l = absurd (omega arith)
   update_is (p ∷ q ∷ qs) h l = rw (last_is_it p (q ∷ qs) h)
+
+-- the last of thresholds and offsets side by side
+pub last_of_two : (xs : List ℕ) (zs : List ℤ) (n : ℕ) → n ≡ min (length xs) (length zs) → 0 < n
+    → IsLast (slot_at xs zs (n - 1)) (paired xs zs)
+last_of_two xs zs n h l =
+    let all : slots xs zs n ≡ paired xs zs = rw h (whole xs zs) in
+    let size : length (paired xs zs) ≡ n = paired_length xs zs ∙ sym h in
+    let here = rw all at (there xs zs n (omega (arith, h)) (omega (arith, h)) (n - 1) (omega (arith, l))) in
+    rw size (ap answered (sym here))
 
 abbrev pub HasNone : List Entry → Type 0
 HasNone es = ◌≡◌ {A = Outcome (Option Entry)} (answered none) (answered (get_elem? es (length es - 1)))

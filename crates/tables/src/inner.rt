@@ -11,7 +11,7 @@ ghost use Rattle.tables.specs.Answers.{taken_in, dated_in};
 pub mod slots;
 
 use crate::inner::slots::Slots;
-use crate::{Dated, LeapEntry, LeapTable, Lookup, NO_EXPIRY};
+use crate::{Dated, LeapEntry, LeapTable, Lookup, NO_EXPIRY, RUNTIME_CAPACITY};
 use refusals::Refusal;
 
 // The largest offset, after which no entry can follow.
@@ -63,6 +63,21 @@ pub fn first_refusal(thresholds: &[u64], offsets: &[i32]) -> Result<(), Refusal>
         step(before, next)?;
     }
     Ok(())
+}
+
+// Whether an entry can be joined to a list, valid or not, by the last one of it.
+pub fn joins(thresholds: &[u64], offsets: &[i32], entry: LeapEntry) -> Result<(), Refusal>
+    ensures { taken_in result ≡ join_refusal (paired thresholds.now offsets.now) entry }
+{
+    let n = thresholds.len().min(offsets.len());
+    if n == 0 {
+        return Ok(());
+    }
+    if RUNTIME_CAPACITY <= n {
+        return Err(Refusal::BufferFull);
+    }
+    let last = LeapEntry::new(thresholds[n - 1], offsets[n - 1]);
+    step(last, entry)
 }
 
 // Whether a threshold lies a day or more after the one before.

@@ -49,7 +49,10 @@ impl LeapTable {
         ensures { table_answer_in result ≡ extended self entry }
     {
         match extends(&self, entry) {
-            Ok(()) => done(inner::joined(self, entry)),
+            Ok(()) => TableAnswer {
+                answer: Ok(()),
+                table: inner::joined(self, entry),
+            },
             Err(why) => refused(why, self),
         }
     }

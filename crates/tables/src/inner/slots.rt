@@ -6,7 +6,7 @@ ghost use Rattle.tables.specs.Entries.{join_refusal, lookup, regular};
 ghost use Rattle.tables.specs.Slots.{entries_of, valid_table, of_valid};
 ghost use Rattle.tables.specs.Answers.{taken_in, entry_in};
 
-use crate::inner::{OFFSET_OF_NO_ENTRY, a_day_on, first_refusal, step, told_of_none};
+use crate::inner::{OFFSET_OF_NO_ENTRY, a_day_on, first_refusal, joins, told_of_none};
 use crate::{LeapEntry, LeapTable, Lookup, RUNTIME_CAPACITY};
 use refusals::Refusal;
 use std::marker::Model;
@@ -124,12 +124,6 @@ impl<'a> Slots<'a> {
     pub fn joins(&self, entry: LeapEntry) -> Result<(), Refusal>
         ensures { taken_in result ≡ join_refusal self.now entry }
     {
-        let Some(last) = self.last() else {
-            return Ok(());
-        };
-        if RUNTIME_CAPACITY <= self.len() {
-            return Err(Refusal::BufferFull);
-        }
-        step(last, entry)
+        joins(self.thresholds, self.offsets, entry)
     }
 }
