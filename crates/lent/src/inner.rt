@@ -131,11 +131,18 @@ impl Pass {
         self.read(self.last.tai_minus_utc)
     }
 
+    // What is in force at the reading.
+    pub fn look_up(self) -> Result<Lookup, Refusal>
+        ensures { outcome_in result ≡ of_taken self.answer (answered self.found) }
+    {
+        self.read(self.found)
+    }
+
     // The offset in force at the reading. A lent list has no expiry, so it is never stale.
     pub fn in_force(self) -> Dated<i32>
         ensures { dated_in result ≡ (of_taken self.answer (answered self.found.offset), false) }
     {
-        Dated::new(self.read(self.found.offset), false)
+        Dated::new(self.look_up().map(|lookup| lookup.offset), false)
     }
 }
 
