@@ -17,6 +17,7 @@ ghost use Rattle.images.specs.Image.{table_in, image_extended, image_expiring};
 use crate::inner;
 use crate::inner::entries::ListedEntries;
 use crate::inner::image::{Image, ValidImage};
+use crate::inner::lookup::checked_look_up;
 use conversions::inner::{
     first_reading_of, gps_from_lookup, last_reading_of, reading_of, steps, tai_of, utc_from_lookup,
 };
@@ -133,15 +134,14 @@ pub fn current_tai_minus_utc(image: &[u8]) -> Result<i32, Refusal>
     }
 }
 
-// The offset in force at a TAI reading, and whether the table is stale there.
+// The offset in force at a TAI reading, and whether the table is stale there. Only an image has an expiry to read: bytes
+// of another size are refused by the lookup.
 pub fn tai_minus_utc_at(image: &[u8], tai: Tai) -> Dated<i32>
     ensures { dated_in result ≡
         dated_by_image image.now (λ es. tai.0) (λ es. answered (offset_at es tai.0)) }
 {
-    match Image::of(image) {
-        Ok(image) => dated_offset_in(image.checked_look_up(tai.0), image.expiry(), tai.0),
-        Err(why) => Dated::new(Err(why), false),
-    }
+    let found = checked_look_up(image, tai.0);
+    dated_offset_in(found, inner::image::expiry(image), tai.0)
 }
 
 // The TAI reading from which on the table is stale, or nothing.

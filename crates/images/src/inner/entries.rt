@@ -47,10 +47,7 @@ impl<'a> ListedEntries<'a> {
         ensures is { result ≡ first_in (drop (12 * i) self.entry.bytes.now) }
         ensures fits { SFits w32 result.tai_minus_utc }
     {
-        let bytes = self.bytes;
-        let at = ENTRY_BYTES * i;
-        let offset_bits = number_in_4(bytes, at + THRESHOLD_BYTES) as u32;
-        LeapEntry::new(number_in_8(bytes, at), signed(offset_bits))
+        entry_at(self.bytes, i)
     }
 
     // The pass over the list. No entry is refused exactly if the list is valid.
@@ -58,10 +55,31 @@ impl<'a> ListedEntries<'a> {
         ensures { (seen_in result ≡ passed (begun tai) (entries_in self.entry.bytes.now)) ×
             (eqb (taken_in result.answer) 0 ≡ valid (entries_in self.entry.bytes.now)) }
     {
-        let mut pass = Pass::begin(tai);
-        for i in 0..self.len() {
-            pass = pass.fold_in(self.entry(i));
-        }
-        pass
+        pass_over(self.bytes, tai)
     }
+}
+
+// The entry at place i in any bytes.
+fn entry_at(entries: &[u8], i: usize) -> LeapEntry
+    requires { i < length entries.now / 12 }
+    ensures is { result ≡ first_in (drop (12 * i) entries.now) }
+    ensures fits { SFits w32 result.tai_minus_utc }
+{
+    let at = ENTRY_BYTES * i;
+    let offset_bits = number_in_4(entries, at + THRESHOLD_BYTES) as u32;
+    LeapEntry::new(number_in_8(entries, at), signed(offset_bits))
+}
+
+// The pass over the entries in any bytes: an incomplete last entry is left out. No entry is refused exactly if the list of
+// the others is valid.
+pub fn pass_over(entries: &[u8], tai: u64) -> Pass
+    ensures { (seen_in result ≡ passed (begun tai) (entries_in entries.now)) ×
+        (eqb (taken_in result.answer) 0 ≡ valid (entries_in entries.now)) }
+{
+    let n = entries.len() / ENTRY_BYTES;
+    let mut pass = Pass::begin(tai);
+    for i in 0..n {
+        pass = pass.fold_in(entry_at(entries, i));
+    }
+    pass
 }

@@ -1,14 +1,14 @@
 // The 784 bytes of an image, each part of the table in them read where it stands.
-ghost use Rattle.std.specs.Prelude.{◌≡◌, true, false, ◌<◌, get_or, length, pos, MatchResult};
+ghost use Rattle.std.specs.Prelude.{◌≡◌, cond, true, false, ◌<◌, get_or, length, pos, MatchResult};
 ghost use Rattle.refusals.specs.Number.{number_of};
-ghost use Rattle.tables.specs.Slots.{slot_at, valid_table};
+ghost use Rattle.tables.specs.Slots.{slot_at, valid_table, no_expiry};
 ghost use Rattle.images.specs.Image.{image_bytes, sized, table_in};
 
 use crate::inner::{
     EXPIRY_AT, IMAGE_BYTES, LENGTH_BYTES, OFFSET_BYTES, OFFSETS_AT, THRESHOLD_BYTES,
 };
 use refusals::Refusal;
-use tables::{LeapEntry, LeapTable, RUNTIME_CAPACITY};
+use tables::{LeapEntry, LeapTable, NO_EXPIRY, RUNTIME_CAPACITY};
 use words::inner::{number_in_4, number_in_8, signed};
 
 // Any 784 bytes: what they hold may be no valid table.
@@ -91,6 +91,16 @@ impl<'a> Image<'a> {
             len: self.len(),
             expiry: self.expiry(),
         }
+    }
+}
+
+// The expiry of the table in an image; none where the bytes are no image.
+pub fn expiry(image: &[u8]) -> u64
+    ensures { result ≡ cond (sized image.now) (table_in image.now).expiry no_expiry }
+{
+    match Image::of(image) {
+        Ok(image) => image.expiry(),
+        Err(_) => NO_EXPIRY,
     }
 }
 

@@ -154,3 +154,10 @@ impl<'a> ValidImage<'a> {
         true
     }
 }
+
+// What is in force at a TAI reading, or 8 where the bytes are no image or hold no valid table.
+pub fn checked_look_up(image: &[u8], tai: u64) -> Result<Lookup, Refusal>
+    ensures { outcome_in result ≡ by_image image.now (λ es. answered (lookup es tai)) }
+{
+    Image::of(image)?.checked_look_up(tai)
+}

@@ -3,11 +3,11 @@ use Rattle.std.proofs.Common.{ap, ◌∙◌, ◌*◌, rules, w32, SFits, to_z}
 use Rattle.std.proofs.Math.Seq.{drop-drop}
 use mir.Facts.{to_z-of_z}
 use Rattle.tables.specs.Entries.{entry}
-use Rattle.images.proofs.inner.entries.ListedEntries.entry.Goals as goal
+use Rattle.images.proofs.inner.entries.entry_at.Goals as goal
 
 pub returns : goal.returns
 returns c =
-    let b = c.args.self.bytes.now in
+    let b = c.args.entries.now in
     let fits : SFits w32 c.signed.result = search rules in
     let kept = to_z-of_z {w = w32} fits in
     let offset = kept ∙ c.signed.ensures
