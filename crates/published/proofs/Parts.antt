@@ -1,27 +1,16 @@
 -- The leading bytes that pass a test: how many they are, what they are, and what comes after them.
-use mathlib.Core.Path.{◌≡◌, refl, sym, ap, ◌∙◌}
+use mathlib.Core.Path.{◌≡◌, refl, ap, ◌∙◌}
 use mathlib.Core.Bool.{Bool, true, false, cond, true≢false}
 use mathlib.Core.List.{List, [], ◌∷◌}
-use Prim.Native.Nat.{ℕ, suc, ◌+◌, ◌-◌, ◌≤◌, ◌<◌, ◌^◌}
+use Prim.Native.Nat.{ℕ, suc, ◌+◌, ◌-◌, ◌≤◌, ◌<◌}
 use native.Mathlib.Omega.{arith}
-use native.Mathlib.Nat.{zero-add, pow-le-pow_right}
 use borrow.Author.Tests.{eqb-true}
 use lib.Dec.{eqb}
 use lib.ListN.{length, get_or, take, drop, length-drop}
 use lib.Seq.{take_all}
 use Rattle.std.specs.List.{prefix_len}
-use Rattle.std.specs.Prelude.{None, Some, Result, Ok, Err}
-use Rattle.std.specs.Result.{result_ok}
-use Rattle.refusals.specs.Outcome.{Outcome, answered, refused, outcome_in}
-use Rattle.refusals.specs.declared.Refusal.{Refusal}
-use Rattle.std.proofs.Common.{lit<}
-use Rattle.std.proofs.lemmas.List.{length-take-le}
-use Rattle.words.specs.Decimal.{is_digit, all_digits, value_of, count_read}
-use Rattle.words.proofs.Reading.{is_count}
-use Rattle.words.proofs.WayBack.{value-below}
 use Rattle.texts.specs.Ends.{until_end, NoEndBetween}
 use Rattle.published.specs.LeapSecondsList.{take_while, drop_while, begins}
-use Rattle.published.specs.Places.{in64_bits}
 
 -- the first i bytes pass a test, the next one does not, and they are in one line
 abbrev pub Passed : (ℕ → Bool) → List ℕ → ℕ → Type 0
@@ -32,7 +21,7 @@ pub is_rest : (s : List ℕ) (at : ℕ) → take (length s - at) (drop at s) ≡
 is_rest s at = take_all (length s - at) (drop at s) (omega (arith, length-drop at s))
 
 module _ (test : ℕ → Bool) where
-  one_more : (b : ℕ) (s : List ℕ) → test b ≡ true → prefix_len test (b ∷ s) ≡ suc (prefix_len test s)
+  pub one_more : (b : ℕ) (s : List ℕ) → test b ≡ true → prefix_len test (b ∷ s) ≡ suc (prefix_len test s)
   one_more b s e = let n : 1 + prefix_len test s ≡ suc (prefix_len test s) = omega arith in rw (e, n)
 
   pub take_leading : (s : List ℕ) → take (prefix_len test s) s ≡ take_while test s
@@ -111,37 +100,3 @@ module _ (test : ℕ → Bool) where
 
     pub passed_all : (s : List ℕ) (i : ℕ) → i ≡ prefix_len test s → Passed test s i
     passed_all s i is = rw is (drop_leading s, (omega (arith, until_leading s), leading_within s))
-
--- ---- what is read of the leading digits
-pub leading_digits : (s : List ℕ) → all_digits (take (prefix_len is_digit s) s) ≡ true
-leading_digits [] = refl
-leading_digits (b ∷ s) = by_byte (is_digit b) refl (leading_digits s)
-  where
-    by_byte : (t : Bool) → is_digit b ≡ t → all_digits (take (prefix_len is_digit s) s) ≡ true
-        → all_digits (take (prefix_len is_digit (b ∷ s)) (b ∷ s)) ≡ true
-    by_byte true e rest = rw (one_more is_digit b s e, e) rest
-    by_byte false e rest = rw e refl
-
--- up to 19 digits are a number of 64 bits
-pub few_digits : (s : List ℕ) (k : ℕ) → k ≡ prefix_len is_digit s → k ≤ length s → 0 < k → k ≤ 19
-    → answered (value_of (take k s)) ≡ in64_bits (count_read (take_while is_digit s))
-few_digits s k is inside some few =
-    let all : all_digits (take k s) ≡ true = rw is (leading_digits s) in
-    let wide : length (take k s) ≡ k = length-take-le k s inside in
-    let below : value_of (take k s) < 10 ^ length (take k s) = rw zero-add at (value-below (take k s) 0 0 all (lit< tt)) in
-    let short : length (take k s) ≤ 19 = omega (arith, wide) in
-    let room : 10 ^ length (take k s) ≤ 10 ^ 19 = pow-le-pow_right {n = 10} (lit< tt) short in
-    let read : count_read (take k s) ≡ answered (value_of (take k s))
-    = is_count (take k s) (omega (arith, wide)) (omega (arith, wide)) all (omega (arith, below, room)) in
-    let same : take k s ≡ take_while is_digit s = ap (λ j. take j s) is ∙ take_leading is_digit s in
-    ap in64_bits (sym read) ∙ ap (λ l. in64_bits (count_read l)) same
-
--- a result's answer, or none, is the outcome
-pub read_none : (r : Result ℕ Refusal) → result_ok r ≡ None → (x : Outcome ℕ) → outcome_in r ≡ x → refused 12 ≡ in64_bits x
-read_none (Ok n) e x is = cc
-read_none (Err why) e x is = rw (← is)
-
-pub read_some : (r : Result ℕ Refusal) (n : ℕ) → result_ok r ≡ Some n → (x : Outcome ℕ) → outcome_in r ≡ x
-    → answered n ≡ in64_bits x
-read_some (Ok m) n e x is = rw (← is) (ap answered (cc))
-read_some (Err why) n e x is = cc

@@ -2,10 +2,10 @@
 // how many bytes it read. Only the last byte of a line is looked at again, where it may be a carriage return.
 pub mod file;
 
-ghost use Rattle.std.specs.Prelude.{◌≡◌, true, false, ◌+◌, ◌≤◌, ◌<◌, ◌^◌, ◌+ℤ◌, pos, IfSome, eqb, nat_abs, length, get_or, drop};
+ghost use Rattle.std.specs.Prelude.{◌≡◌, true, false, ◌+◌, ◌≤◌, ◌<◌, ◌^◌, ◌+ℤ◌, pos, IfSome, eqb, nat_abs, length, get_or, take, drop};
 ghost use Rattle.std.specs.List.{prefix_len};
 ghost use Rattle.std.proofs.Math.IntN.{sub_ℕ};
-ghost use Rattle.words.specs.Decimal.{is_digit, count_read};
+ghost use Rattle.words.specs.Decimal.{is_digit, all_digits, value_of, count_read};
 ghost use Rattle.texts.specs.Ends.{until_end, NoEndBetween};
 ghost use Rattle.records.specs.Records.{event};
 ghost use Rattle.published.specs.LeapSecondsList.{take_while, begins, is_blank, ends_in_return, field_read, offset_read, record_at, line_read};
@@ -13,8 +13,7 @@ ghost use Rattle.published.specs.Places.{first_line, number_found, opens, ends_f
 
 use records::inner::LeapRecord;
 use texts::inner::{LINE_END, next_end};
-use words::digits::read_count;
-use words::inner::digits::field;
+use words::inner::digits::digit;
 
 // NTP seconds up to 1980-01-06, where TAI counts begin.
 const NTP_SECONDS_TO_1980: i128 = 2_524_953_600;
@@ -23,6 +22,8 @@ const LARGEST_OFFSET: u64 = i32::MAX as u64;
 
 // Any number of up to 19 digits fits 64 bits.
 const SAFE_DIGITS: usize = 19;
+
+const MOST_DIGITS: usize = 20;
 
 // A comment or a blank line, a line with a record, or one with the NTP seconds of the expiry.
 #[derive(Clone, Copy)]
@@ -46,25 +47,50 @@ fn blanks(s: &[u8]) -> usize
     s.iter().take_while(|b| is_blank(**b)).count()
 }
 
-// How many digits a text begins with.
-fn digits(s: &[u8]) -> usize
-    ensures value { result ≡ prefix_len is_digit s.now }
-    ensures within { result ≤ length s.now }
+// Whether the byte at a place is a digit; past the end there is none.
+fn is_digit_at(s: &[u8], at: usize) -> bool
+    ensures { result ≡ is_digit (get_or s.now at 0) }
 {
-    s.iter().take_while(|b| b.is_ascii_digit()).count()
+    matches!(s.get(at), Some(b'0'..=b'9'))
 }
 
-// The number of 64 bits in the 1 to 20 digits that a text begins with, and how many they are.
+// The number whose first 19 digits say `value`: a 20th digit may make it too large, and a 21st is too many.
+fn read_last_digit(s: &[u8], value: u64) -> Option<(u64, usize)>
+    requires long { 19 ≤ length s.now }
+    requires digits { all_digits (take 19 s.now) ≡ true }
+    requires said { value ≡ value_of (take 19 s.now) }
+    ensures is { number_found result ≡ in64_bits (count_read (take_while is_digit s.now)) }
+    ensures ends { IfSome result (λ n. (n.1 ≡ prefix_len is_digit s.now) × (n.1 ≤ length s.now)) }
+{
+    if !is_digit_at(s, SAFE_DIGITS) {
+        return Some((value, SAFE_DIGITS));
+    }
+    if is_digit_at(s, MOST_DIGITS) {
+        return None;
+    }
+    let number = value.checked_mul(10)?.checked_add(digit(s[SAFE_DIGITS]))?;
+    Some((number, MOST_DIGITS))
+}
+
+// The number of 64 bits in the 1 to 20 digits that a text begins with, and how many they are. Any 19 digits fit, so they
+// are not tested.
 fn read_number(s: &[u8]) -> Option<(u64, usize)>
     ensures is { number_found result ≡ in64_bits (count_read (take_while is_digit s.now)) }
     ensures ends { IfSome result (λ n. (n.1 ≡ prefix_len is_digit s.now) × (n.1 ≤ length s.now)) }
 {
-    let end = digits(s);
-    if 0 < end && end <= SAFE_DIGITS {
-        return Some((field(s, 0, end), end));
+    let end = s.len().min(SAFE_DIGITS);
+    let mut value: u64 = 0;
+    for i in 0..end {
+        let b = s[i];
+        if !b.is_ascii_digit() {
+            return (0 < i).then_some((value, i));
+        }
+        value = value * 10 + digit(b);
     }
-    let number = read_count(&s[..end]).ok()?;
-    Some((number, end))
+    if end < SAFE_DIGITS {
+        return (0 < end).then_some((value, end));
+    }
+    read_last_digit(s, value)
 }
 
 // Whether the line ends at the start of a text, or a comment begins there, where there may be one.
