@@ -1,3 +1,4 @@
 pub mod Report
 pub mod Since
 pub mod Writing
+pub mod Runs

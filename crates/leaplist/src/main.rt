@@ -5,10 +5,11 @@
 
 mod inner;
 
-ghost use Rattle.std.specs.Prelude.{◌<◌, ◌≤◌, IfOk, IfSome, length};
+ghost use Rattle.std.specs.Prelude.{◌<◌, ◌≤◌, IfSome, length};
 ghost use Rattle.std.specs.Io.KnownBytes.{Appends};
 ghost use Rattle.lines.specs.OutcomeLine.{PutsWithRoom};
 ghost use Rattle.leaplist.specs.Report.{report};
+ghost use Rattle.leaplist.specs.Runs.{IfSilent};
 ghost use Rattle.leaplist.specs.Since.{since_line};
 
 use inner::put::{put_refusal, put_table};
@@ -70,8 +71,8 @@ fn run<R: Read, W: Write>(
     block: &mut [u8],
     out: &mut [u8],
 ) -> Result<(), Stop>
-    ensures { 65536 < length block.old → 4740 ≤ length out.old → IfOk result
-        (λ _. IfSome (R.remaining input.old) (λ all.
+    ensures { 65536 < length block.old → 4740 ≤ length out.old → IfSilent result
+        (IfSome (R.remaining input.old) (λ all.
         Appends (W.contents output.old) (W.contents output.new) (report all))) }
 {
     let n = read_whole(clock, input, block)?;
