@@ -34,39 +34,37 @@ impl Reading {
         }
     }
 
-    pub fn byte(self, b: u8) -> Reading {
+    pub fn byte(&mut self, b: u8) {
         if b == b'\n' {
-            return self.end();
+            *self = self.end();
+            return;
         }
         if self.comment {
-            return self;
+            return;
         }
         if b == b'#' {
-            let mut next = self;
-            next.comment = true;
-            return next;
+            self.comment = true;
+            return;
         }
-        self.within(b)
+        self.within(b);
     }
 
     // A byte of a line of numbers.
-    fn within(self, b: u8) -> Reading {
+    fn within(&mut self, b: u8) {
         let at = self.at;
-        let mut next = self;
         if 16 <= at {
-            return next;
+            return;
         }
         if b == b'-' {
-            next.numbers[at].minus = true;
-            return next;
+            self.numbers[at].minus = true;
+            return;
         }
         if b.is_ascii_digit() {
-            next.numbers[at].size = with_digit(next.numbers[at].size, b - b'0');
-            next.begun = true;
-            return next;
+            self.numbers[at].size = with_digit(self.numbers[at].size, b - b'0');
+            self.begun = true;
+            return;
         }
-        next.at = at + 1;
-        next
+        self.at = at + 1;
     }
 
     // The end of a line: the library is asked, and the next line begins.

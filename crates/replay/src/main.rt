@@ -17,9 +17,11 @@ fn cannot_read(rt: &HostRuntime) {
     let _ = rt.stderr().write_all(b"replay: cannot read\n");
 }
 
-// What came of the bytes of a block.
-fn take(reading: Reading, block: &[u8]) -> Reading {
-    block.iter().fold(reading, |next, b| next.byte(*b))
+// Takes the bytes of a block.
+fn take(reading: &mut Reading, block: &[u8]) {
+    for b in block {
+        reading.byte(*b);
+    }
 }
 
 // A proved loop has to end, and nothing says that the input does: it counts its reads, up to a number that no run
@@ -29,7 +31,7 @@ fn read_all(rt: &HostRuntime, block: &mut [u8]) -> Reading {
     for _ in 0..u64::MAX {
         match rt.stdin().read(block) {
             Ok(0) => return reading,
-            Ok(n) => reading = take(reading, &block[0..n]),
+            Ok(n) => take(&mut reading, &block[0..n]),
             Err(_) => {
                 cannot_read(rt);
                 return reading;
